@@ -1,6 +1,7 @@
 pub mod ParentTables
 pub mod Uniting
 pub mod ComponentCounts
+pub mod ComponentSets
 pub mod EdgeRows
 pub mod TrailTables
 pub mod TrailScans

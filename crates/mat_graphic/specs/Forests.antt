@@ -1,5 +1,5 @@
 -- Forests and components of a graph, and the graph whose forests are the independent sets of a matroid (Schrijver, chapters 1 and 39).
-use Rattle.std.specs.Prelude.{◌≢◌, ℕ, zero, suc, ◌≤◌, Bool, false, not, ◌&&◌, ◌||◌, ◌==◌, List, [], ◌∷◌, length, slice_index_or}
+use Rattle.std.specs.Prelude.{◌≢◌, ℕ, zero, suc, ◌≤◌, Bool, false, not, ◌&&◌, ◌||◌, ◌==◌, List, [], ◌∷◌, length, map, slice_index_or}
 use Rattle.mat_sets.specs.Sets.{AreDistinct, IsSubset}
 use Rattle.mat_sets.specs.SetTests.{are_distinct, is_set}
 use Rattle.mat_sets.specs.Search.{some_below, those_below}
@@ -67,6 +67,14 @@ pub record IsLeastReached (ends : ℕ → ℕ × ℕ) (X : List ℕ) (v r : ℕ)
 -- the vertices that are their own least ones
 abbrev pub roots_of : ℕ → (ℕ → ℕ) → List ℕ
 roots_of vertices least = those_below vertices (λ v. least v == v)
+
+-- the vertices whose least vertex is r
+abbrev pub class_of : ℕ → (ℕ → ℕ) → ℕ → List ℕ
+class_of vertices least r = those_below vertices (λ v. least v == r)
+
+-- the components that the members of X make of these vertices, each as a set of vertices, in the order of their least vertices
+abbrev pub components_of : ℕ → (ℕ → ℕ × ℕ) → List ℕ → List (List ℕ)
+components_of vertices ends X = map (class_of vertices (least_reached ends X)) (roots_of vertices (least_reached ends X))
 
 -- how many components the members of X make of these vertices: the vertices from which no lower one is reached
 unfoldable pub number_of_components : ℕ → (ℕ → ℕ × ℕ) → List ℕ → ℕ

@@ -7,6 +7,6 @@ pub mod laws;
 mod rooted_forest;
 mod union_find;
 
-pub use components::least_vertices;
+pub use components::{component_sets, least_vertices};
 pub use graphic::Graphic;
 pub use rooted_forest::RootedForest;

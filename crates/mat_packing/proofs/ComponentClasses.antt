@@ -1,8 +1,8 @@
 -- The components of the cut of filled copies are a partition that allows few spanning trees: each crossing edge is outside the cut, and there
 -- are as many classes as components.
-use Rattle.std.proofs.Common.{◌≡◌, ◌≢◌, ◌∙◌, ℕ, suc, ◌+◌, ◌-◌, ◌*◌, ◌<◌, ◌≤◌, Bool, true, false, not, ◌&&◌, ◌||◌, eqb, ltb, List, [], ◌∷◌, ◌++◌, length, get_or, map, take, refl, sym, ap, subst, arith, ◌↔◌}
+use Rattle.std.proofs.Common.{◌≡◌, ◌≢◌, ◌∙◌, ℕ, suc, ◌+◌, ◌-◌, ◌*◌, ◌<◌, ◌≤◌, Bool, true, false, not, ◌&&◌, ◌||◌, eqb, ltb, List, [], ◌∷◌, length, get_or, map, refl, sym, ap, subst, arith, ◌↔◌}
 use Rattle.std.proofs.lemmas.Bool.{and_from, and_parts, both_ways, eq-eqb, eqb-true, false_from_ne_true, lt-ltb, ltb-true, not-true, false≢true}
-use Rattle.std.proofs.lemmas.List.{get_or-map, length-map, map-append, take_more}
+use Rattle.std.proofs.lemmas.List.{get_or-map, length-map}
 use Rattle.mat_sets.specs.Families.{indicator, multiplicity}
 use Rattle.mat_sets.specs.Graphs.{ends_of, IsGraph}
 use Rattle.mat_sets.specs.Sets.{all_below, is_member, minus, IsSet, RisesFrom}
@@ -15,7 +15,7 @@ use Rattle.mat_sets.proofs.Families.{multiplicity-gives}
 use Rattle.mat_laws.specs.Ranks.{rank}
 use Rattle.mat_laws.proofs.Independent.{rising}
 use Rattle.mat_laws.proofs.RankLaws.{length-independent}
-use Rattle.mat_graphic.specs.Forests.{is_graphic, least_reached, number_of_components, roots_of, IsLeastReached}
+use Rattle.mat_graphic.specs.Forests.{class_of, is_graphic, least_reached, number_of_components, roots_of, IsLeastReached}
 use Rattle.mat_graphic.specs.Mergings.{least_merged}
 use Rattle.mat_graphic.specs.ComponentLaws.{least_merged-fixed, least_merged-le, member_within}
 use Rattle.mat_graphic.specs.ForestLaws.{graphic_laws}
@@ -25,22 +25,10 @@ use Rattle.mat_union.specs.Unions.{part_at}
 use Rattle.mat_packing.specs.Answers.{is_partition, HasNoTrees, IsRightTreesAnswer}
 use Rattle.mat_packing.specs.declared.trees.Trees.{Trees}
 use Rattle.mat_packing.specs.declared.trees.Trees.TheVariants.{Trees as AllTrees, Partition}
-use Rattle.mat_packing.specs.Components.{class_of}
 use Rattle.mat_packing.specs.FilledCopies.{AreFilledCopies}
 use Rattle.mat_packing.specs.Trees.{crossing, stays, AreTrees, IsRightPartition}
 use Rattle.mat_packing.proofs.BaseCounts.{short_by, union_short, AreAtMost}
 use Rattle.mat_packing.proofs.Partitions.{few_trees}
-
--- ---- lists
-
-map_more : (f : ℕ → List ℕ) (xs : List ℕ) (i : ℕ) → i < length xs → map f (take (i + 1) xs) ≡ map f (take i xs) ++ f (get_or xs i 0) ∷ []
-map_more f xs i l = ap (map f) (take_more xs i 0 l) ∙ map-append f (take i xs) (get_or xs i 0 ∷ [])
-
--- one class more
-pub classes_pushed : (f : ℕ → List ℕ) (roots : List ℕ) (i : ℕ) (classes new : List (List ℕ)) (class : List ℕ) → i < length roots → new ≡ classes ++ class ∷ [] → classes ≡ map f (take i roots)
-    → class ≡ f (get_or roots i 0) → new ≡ map f (take (i + 1) roots)
-classes_pushed f roots i classes new class l pushed before own =
-    pushed ∙ ap (λ c. classes ++ c ∷ []) own ∙ ap (λ cs. cs ++ f (get_or roots i 0) ∷ []) before ∙ sym (map_more f roots i l)
 
 -- a set that holds x exactly where its number is y
 once_in : (f : ℕ → List ℕ) (x y : ℕ) → ((r : ℕ) → is_member x (f r) ≡ eqb y r) → (lo : ℕ) (rs : List ℕ) → RisesFrom lo rs → multiplicity x (map f rs) ≡ indicator (is_member y rs)

@@ -3,4 +3,3 @@ pub mod Trees
 pub mod Answers
 pub mod FilledCopies
 pub mod Rooms
-pub mod Components

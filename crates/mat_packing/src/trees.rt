@@ -1,11 +1,11 @@
 //! Disjoint spanning trees of a graph.
-ghost use Rattle.std.specs.Prelude.{◌≡◌, ◌<◌, ◌≤◌, ◌^◌, ◌↔◌, true, length, map, slice_index, IfOk};
+ghost use Rattle.std.specs.Prelude.{◌≡◌, ◌≤◌, ◌↔◌, true, length, IfOk};
 ghost use Rattle.mat_sets.specs.{Limits.{most_vertices, most_elements, most_trees}, Graphs.{IsGraph}};
-ghost use Rattle.mat_packing.specs.{Answers.{is_partition, HasNoTrees, IsRightTreesAnswer}, Components.{class_of}};
+ghost use Rattle.mat_packing.specs.Answers.{is_partition, HasNoTrees, IsRightTreesAnswer};
 
 use crate::filling::{are_full, fill_copies};
-use mat_graphic::{Graphic, least_vertices};
-use mat_sets::{ElemSet, Pairs, SetList};
+use mat_graphic::{Graphic, component_sets};
+use mat_sets::{Pairs, SetList};
 use std::alloc::{AllocError, Global};
 
 /// Disjoint spanning trees of a graph, or a partition of its vertices that does not allow so many of them.
@@ -15,32 +15,6 @@ pub enum Trees {
     Trees(SetList),
     /// The classes of the partition: fewer edges run between them than so many spanning trees need.
     Partition(SetList),
-}
-
-// The vertices v for which `least[v]`, the least vertex of the component of v, is this one.
-fn members_with(alloc: Global, least: &[u32], root: u32) -> Result<ElemSet, AllocError>
-    requires few { length least.now < 2 ^ 32 }
-    ensures { IfOk result (λ s. s ≡ class_of (length least.now) (slice_index least.now) root) }
-{
-    let mut set = ElemSet::new(alloc);
-    for v in 0..least.len() {
-        if least[v] == root {
-            set.add(v as u32)?;
-        }
-    }
-    Ok(set)
-}
-
-// The classes of these least vertices.
-fn classes_of(alloc: Global, least: &[u32], roots: &[u32]) -> Result<SetList, AllocError>
-    requires few { length least.now < 2 ^ 32 }
-    ensures { IfOk result (λ classes. classes ≡ map (class_of (length least.now) (slice_index least.now)) roots.now) }
-{
-    let mut classes = Vec::new(alloc);
-    for root in roots {
-        classes.push(members_with(alloc, least, *root)?)?;
-    }
-    Ok(SetList::new(classes))
 }
 
 /// So many disjoint spanning trees, or a partition of the vertices with fewer edges between its classes than these need (Tutte;
@@ -62,7 +36,6 @@ pub fn pack_trees(alloc: Global, vertices: u32, edges: &Pairs, k: u32) -> Result
         return Ok(Trees::Trees(filled.parts));
     }
     let least = graph.components(alloc, &filled.cut)?;
-    let roots = least_vertices(alloc, &least)?;
-    let classes = classes_of(alloc, &least, roots.as_slice())?;
+    let classes = SetList::new(component_sets(alloc, &least)?);
     Ok(Trees::Partition(classes))
 }

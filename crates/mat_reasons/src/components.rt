@@ -1,17 +1,18 @@
 //! Groups of vertices that the edges of some colours join.
 
-ghost use Rattle.std.specs.Prelude.{◌≡◌, ◌<◌, ◌^◌, length, All, IfOk};
-ghost use Rattle.mat_sets.specs.{Graphs.{IsGraph}, Sets.{AllBelow}};
+ghost use Rattle.std.specs.Prelude.{◌≡◌, ◌<◌, ◌^◌, not, length, slice_index, All, IfOk};
+ghost use Rattle.mat_sets.specs.{Graphs.{IsGraph, ends_of}, Search.{those_below}, Sets.{is_member, AllBelow}};
+ghost use Rattle.mat_graphic.specs.Forests.{components_of};
 
-use mat_graphic::Graphic;
+use mat_graphic::{Graphic, component_sets};
 use mat_sets::ElemSet;
 use std::alloc::{AllocError, Global};
 
 // The edges whose colour is not in the set.
-#[tactic(auto, using(mat_sets::proofs::Changes::set_changes))]
 fn edges_without(alloc: Global, colour_of: &[u32], colours: &ElemSet) -> Result<ElemSet, AllocError>
     requires { length colour_of.now < 2 ^ 32 }
-    ensures { IfOk result (λ rest. AllBelow (length colour_of.now) rest) }
+    ensures { IfOk result (λ rest. rest ≡ those_below (length colour_of.now)
+        (λ e. not (is_member (slice_index colour_of.now e) colours.now))) }
 {
     let mut rest = ElemSet::new(alloc);
     for e in 0..colour_of.len() as u32 {
@@ -20,35 +21,6 @@ fn edges_without(alloc: Global, colour_of: &[u32], colours: &ElemSet) -> Result<
         }
     }
     Ok(rest)
-}
-
-// The vertices whose place holds this number.
-#[tactic(auto, using(mat_sets::proofs::Changes::set_changes))]
-fn places_of(alloc: Global, least: &[u32], x: u32) -> Result<ElemSet, AllocError>
-    requires { length least.now < 2 ^ 32 }
-    ensures { IfOk result (λ places. AllBelow (length least.now) places) }
-{
-    let mut places = ElemSet::new(alloc);
-    for v in 0..least.len() as u32 {
-        if least[v as usize] == x {
-            places.add(v)?;
-        }
-    }
-    Ok(places)
-}
-
-// The groups of vertices, by the least vertex of each vertex's group.
-fn groups_by(alloc: Global, least: &[u32]) -> Result<Vec<ElemSet>, AllocError>
-    requires { length least.now < 2 ^ 32 }
-    ensures { IfOk result (λ groups. All (AllBelow (length least.now)) groups.items) }
-{
-    let mut groups = Vec::new(alloc);
-    for v in 0..least.len() as u32 {
-        if least[v as usize] == v {
-            groups.push(places_of(alloc, least, v)?)?;
-        }
-    }
-    Ok(groups)
 }
 
 /// The groups of vertices that are joined by edges of other colours than these, in the order of their least vertices. The only error is want
@@ -65,8 +37,14 @@ pub fn left_groups(
     requires long { length colour_of.now ≡ length graph.now.edges }
 
     // Each group is a set of vertices.
-    ensures { IfOk result (λ groups. All (AllBelow graph.now.vertices) groups.items) }
+    ensures below { IfOk result (λ groups. All (AllBelow graph.now.vertices) groups.items) }
+
+    // The groups are the components that the edges of other colours make of the vertices.
+    ensures components { IfOk result (λ groups. groups.items ≡ components_of graph.now.vertices (ends_of graph.now.edges)
+        (those_below (length colour_of.now) (λ e. not (is_member (slice_index colour_of.now e) colours.now)))) }
 {
     let rest = edges_without(alloc, colour_of, colours)?;
-    groups_by(alloc, &graph.components(alloc, &rest)?)
+    let least = graph.components(alloc, &rest)?;
+    let groups = component_sets(alloc, &least)?;
+    Ok(groups)
 }

@@ -1,5 +1,5 @@
--- Lists whose items a function maps: their members, and that no item stands twice.
-use Rattle.std.proofs.Common.{◌≡◌, ℕ, true, eqb, List, [], ◌∷◌, map, inl, inr, sym, ap, ◌∙◌}
+-- Lists whose items a function maps: their members, that no item stands twice, and that functions with the same values make the same list.
+use Rattle.std.proofs.Common.{◌≡◌, ℕ, true, eqb, List, [], ◌∷◌, map, inl, inr, refl, sym, ap, ◌∙◌}
 use Rattle.std.proofs.lemmas.Bool.{both_ways, eq-eqb, eqb-true, false_from_ne_true, false≢true, or_cases, or_left, or_right}
 use Rattle.mat_sets.specs.Sets.{is_member, AreDistinct}
 use Rattle.mat_sets.proofs.ListParts.{is_member-tail}
@@ -29,3 +29,8 @@ AreDistinct-map f (x ∷ xs) d one = (
       both_ways _ d.0 (ap (λ z. is_member z xs) (sym same) ∙ w.1))),
   AreDistinct-map f xs d.1 (λ y z m k. one y z (is_member-tail y x xs m) (is_member-tail z x xs k)),
 )
+
+-- functions with the same values make the same list
+pub map_same : {A B : Type 0} (f g : A → B) → ((x : A) → f x ≡ g x) → (xs : List A) → map f xs ≡ map g xs
+map_same f g same [] = refl
+map_same f g same (x ∷ xs) = ap (λ y. y ∷ map f xs) (same x) ∙ ap (λ ys. g x ∷ ys) (map_same f g same xs)

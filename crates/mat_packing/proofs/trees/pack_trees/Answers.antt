@@ -1,8 +1,7 @@
 use Rattle.std.proofs.Common.{◌≡◌, ◌∙◌, ap, get_or, length, map, subst}
 use Rattle.mat_sets.specs.Graphs.{ends_of}
-use Rattle.mat_graphic.specs.Forests.{is_graphic, roots_of}
+use Rattle.mat_graphic.specs.Forests.{class_of, is_graphic, roots_of}
 use Rattle.mat_graphic.specs.declared.graphic.Graphic.{Graphic}
-use Rattle.mat_packing.specs.Components.{class_of}
 use Rattle.mat_packing.specs.FilledCopies.{AreFilledCopies}
 use Rattle.mat_packing.specs.declared.trees.Trees.TheVariants.{Trees, Partition}
 use Rattle.mat_packing.proofs.ComponentClasses.{no_trees_told, partition_told, right_trees}
@@ -27,14 +26,13 @@ returns-clause-right c =
     let same : c.in_ok-graph.graph.edges ≡ edges = ap (λ (g : Graphic). g.edges) c.in_ok-graph.ensures.value ∙ c.in_ok-copy.ensures in
     let size : c.in_ok-graph.graph.vertices ≡ c.args.vertices = ap (λ (g : Graphic). g.vertices) c.in_ok-graph.ensures.value in
     let table = c.in_ok-least.least.items in
-    let slice = c.as_slice.result.now in
     let w = c.are_full.ensures.other c.if-are_full.false in
-    let told = c.in_ok-classes.ensures ∙ ap (λ L. map (class_of (length L) (λ v. get_or L v 0)) slice) c.deref-2.ensures.value
-    ∙ ap (map (class_of (length table) (λ v. get_or table v 0))) (c.as_slice.ensures.items ∙ c.in_ok-roots.ensures ∙ ap (λ L. roots_of (length L) (λ v. get_or L v 0)) c.deref.ensures.value)
+    let told = c.new-classes.ensures.items ∙ c.in_ok-component_sets.ensures
+    ∙ ap (λ L. map (class_of (length L) (λ v. get_or L v 0)) (roots_of (length L) (λ v. get_or L v 0))) c.deref.ensures.value
     ∙ ap (λ n. map (class_of n (λ v. get_or table v 0)) (roots_of n (λ v. get_or table v 0))) (c.in_ok-least.ensures.long ∙ size) in
-    partition_told edges c.in_ok-graph.graph.edges c.args.vertices c.in_ok-graph.graph.vertices c.args.k c.in_ok-filled.filled.parts c.in_ok-filled.filled.cut table c.in_ok-classes.classes
+    partition_told edges c.in_ok-graph.graph.edges c.args.vertices c.in_ok-graph.graph.vertices c.args.k c.in_ok-filled.filled.parts c.in_ok-filled.filled.cut table c.new-classes.result
     c.requires.graph same size c.requires.some_vertex c.in_ok-filled.ensures c.in_ok-least.ensures.least told w.0 w.1 w.2
 
 pub returns-clause-partition : goal.returns-clause-partition
 returns-clause-partition c =
-    no_trees_told c.args.vertices c.args.edges.now c.args.k c.requires.graph (Partition c.in_ok-classes.classes) (returns-clause-right c)
+    no_trees_told c.args.vertices c.args.edges.now c.args.k c.requires.graph (Partition c.new-classes.result) (returns-clause-right c)

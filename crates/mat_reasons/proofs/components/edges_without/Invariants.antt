@@ -1,7 +1,8 @@
--- The edges so far are edges.
-use Rattle.std.proofs.Common.{length}
-use Rattle.mat_sets.specs.Sets.{AllBelow}
+-- The edges of other colours so far.
+use Rattle.std.proofs.Common.{◌≡◌, not, get_or}
+use Rattle.mat_sets.specs.Search.{those_below}
+use Rattle.mat_sets.specs.Sets.{is_member}
 use Rattle.mat_reasons.proofs.components.edges_without.Given as goal
 
 abbrev pub invariant-loop-e : goal.invariant-loop-e
-invariant-loop-e l = AllBelow (length l.colour_of) l.rest
+invariant-loop-e l = l.rest ≡ those_below l.e (λ e. not (is_member (get_or l.colour_of e 0) l.colours))

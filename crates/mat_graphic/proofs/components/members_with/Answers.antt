@@ -2,8 +2,8 @@ use Rattle.std.proofs.Common.{ℕ, ◌∙◌, ap, eqb, get_or}
 use Rattle.std.proofs.lemmas.Bool.{eq-eqb, ne_eqb}
 use Rattle.mat_sets.specs.Sets.{with_one}
 use Rattle.mat_sets.proofs.Rounds.{those_below-none, those_below-put, those_below-skip}
-use Rattle.mat_packing.proofs.trees.members_with.Goals as goal
-use Rattle.mat_packing.proofs.trees.members_with.Goals.{then-least-v+in_ok-add, else-least-v}
+use Rattle.mat_graphic.proofs.components.members_with.Goals as goal
+use Rattle.mat_graphic.proofs.components.members_with.Goals.{then-least-v+in_ok-add, else-least-v}
 
 pub loop-v-init : goal.loop-v-init
 loop-v-init c = c.new-set.ensures.members ∙ those_below-none (λ v. eqb (get_or c.args.least.now v 0) c.args.root)
