@@ -51,9 +51,10 @@ pub(crate) fn shows_probes(matroid: &Gf2, numbers: &[u128], set: &ElemSet) -> bo
     true
 }
 
-/// Such numbers for an independent set, by elimination: at first there is a row for each entry of a column, with a one there alone. Each column
-/// in turn takes a row with which it has an odd number of ones in common out of the rows, as its probe, and the probe is added to the other
-/// rows and to the earlier probes with which the column has an odd number of ones in common. The only error is want of memory.
+/// For an independent set, a number for each member that has an odd number of ones in common with its column, and an even number with those of
+/// the others, by elimination: at first there is a row for each entry of a column, with a one there alone. Each column
+/// in turn takes the first row with which it has an odd number of ones in common out of the rows, as its probe, and the probe is added to the
+/// other rows and to the earlier probes with which the column has an odd number of ones in common. The only error is want of memory.
 pub(crate) fn probes_of(
     alloc: Global,
     matroid: &Gf2,

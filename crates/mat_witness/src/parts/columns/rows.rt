@@ -11,6 +11,7 @@ use std::alloc::{AllocError, Global};
 // The place of the first row that meets the column oddly.
 fn odd_row(rows: &[u128], column: u128) -> Option<usize>
     ensures some { IfSome result (λ at. (at < length rows.now) × (inner_product_is_one (slice_index_or rows.now at 0) column ≡ true)) }
+    ensures none_before { IfSome result (λ at. (i : ℕ) → i < at → inner_product_is_one (slice_index_or rows.now i 0) column ≡ false) }
     ensures none { IfNone result ((i : ℕ) → i < length rows.now → inner_product_is_one (slice_index_or rows.now i 0) column ≡ false) }
 {
     for i in 0..rows.len() {
