@@ -115,14 +115,14 @@ pub(crate) fn bounds_common_sets(
 {
     let all = ElemSet::all_below(alloc, first.size())?;
     let outside = all.minus(alloc, cut)?;
-    match parts {
-        [part, other] => match bound_shown(alloc, first, part, &outside)? {
-            Some(here) => match bound_shown(alloc, second, other, cut)? {
-                Some(there) => Ok(here as usize + there as usize <= last),
-                None => Ok(false),
-            },
-            None => Ok(false),
-        },
-        _ => Ok(false),
-    }
+    let [part, other] = parts else {
+        return Ok(false);
+    };
+    let Some(here) = bound_shown(alloc, first, part, &outside)? else {
+        return Ok(false);
+    };
+    let Some(there) = bound_shown(alloc, second, other, cut)? else {
+        return Ok(false);
+    };
+    Ok(here as usize + there as usize <= last)
 }

@@ -40,11 +40,11 @@ bound_shown-requires-clause-set c =
     = c.in_ok-outside.ensures.members ∙ ap (λ a. minus a c.args.cut.now) (c.in_ok-all.ensures.members ∙ ap all_below c.size.ensures) in
     subst (IsSet n) (sym is) (IsSet-minus n (all_below n) c.args.cut.now (IsSet-all_below n))
 
-pub returns-in-Some-2 : goal.returns-in-Some-2
-returns-in-Some-2 c =
+pub returns : goal.returns
+returns c =
     let n = element_count (tree_of c.args.first.now) in
     let is : c.in_ok-outside.outside ≡ minus (all_below n) c.args.cut.now
     = c.in_ok-outside.ensures.members ∙ ap (λ a. minus a c.args.cut.now) (c.in_ok-all.ensures.members ∙ ap all_below c.size.ensures) in
     two_bounds (tree_of c.args.first.now) (tree_of c.args.second.now) n c.args.cut.now c.in_ok-outside.outside c.args.last c.args.parts.now
     c.part-item.result c.other-item.result c.in-Some.here c.in-Some-2.there c.in-len2.len_at_least c.in-len2.len_below c.part-item.is
-    c.other-item.is is (sym c.in-Some.is ∙ c.in_ok-here-in-len2.ensures) (sym c.in-Some-2.is ∙ c.in_ok-there-in-Some.ensures)
+    c.other-item.is is (sym c.in-Some.is ∙ c.in_ok-here.ensures) (sym c.in-Some-2.is ∙ c.in_ok-there.ensures)
