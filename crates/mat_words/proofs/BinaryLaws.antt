@@ -2,12 +2,12 @@
 -- spells. Both are told of digits that stand behind others, whose number is doubled at each digit.
 use Rattle.std.proofs.Common.{◌≡◌, ℕ, zero, suc, ◌+◌, ◌-◌, ◌*◌, ◌%◌, ◌^◌, ◌<◌, ◌≤◌, Bool}
 use Rattle.std.proofs.Common.{true, false, ◌&&◌, ◌||◌, eqb, refl, sym, ap, ap₂, ◌∙◌, arith}
-use Rattle.std.proofs.Common.{List, [], ◌∷◌, ◌++◌, length, drop, get_or, Ok}
+use Rattle.std.proofs.Common.{List, [], ◌∷◌, ◌++◌, length, take, drop, get_or, Ok}
 use Rattle.std.specs.Int.{bit_at}
 use Rattle.std.specs.List.{list_all}
 use Rattle.std.proofs.Math.Nat.{add-mul, mul_assoc, mul_comm, mod-eq_of_lt, pow-succ', pow-le-pow_right}
 use Rattle.std.proofs.lemmas.Bool.{eqb-true, eq-eqb, and_from, and_parts}
-use Rattle.std.proofs.lemmas.List.{append_assoc, append-nil, at_drop_more, at_drop_all}
+use Rattle.std.proofs.lemmas.List.{append_assoc, append-nil, length-append, take_at, take-append-le, at_drop_more, at_drop_all}
 use Rattle.std.proofs.lemmas.Nat.{mod-pow-add, mod_below}
 use Rattle.std.proofs.lemmas.Nat.Bits.{bit_at-lt, bit_at_lowest, bit_at_cat_high}
 use Rattle.mat_words.specs.Words.{is_letter, is_word}
@@ -223,3 +223,13 @@ digit_written out (suc place) z total some so_far =
 pub digits_written : (out : List ℕ) (place z : ℕ) (total : List ℕ) → place ≤ 0 → out ++ binary place z ≡ total → out ≡ total
 digits_written out zero z total done so_far = sym (append-nil out) ∙ so_far
 digits_written out (suc place) z total done so_far = absurd (omega arith)
+
+-- where the next digit was not written, what stood there before the digits is still in front
+pub front_of_digits : (old out new : List ℕ) (place digits z : ℕ) → place ≤ digits → new ≡ out
+    → out ++ binary place z ≡ old ++ binary digits z → take (length old) new ≡ old
+front_of_digits old out new place digits z within same so_far =
+    let counted : length out + place ≡ length old + digits =
+    omega (arith, ap length so_far, length-append out (binary place z), length-append old (binary digits z), length-binary place z, length-binary digits z) in
+    let longer : length old ≤ length out = omega arith in
+    ap (λ (t : List ℕ). take (length old) t) same ∙ sym (take-append-le (length old) out (binary place z) longer)
+    ∙ ap (λ (t : List ℕ). take (length old) t) so_far ∙ take_at old (binary digits z) (length old) refl

@@ -1,8 +1,9 @@
--- The text of a line that is written word by word: behind the first word each further word stands behind a space.
+-- The text of a line that is written word by word: behind the first word each further word stands behind a space. Where there is no memory
+-- for a word, what stood there before them all still stands in front.
 use Rattle.std.proofs.Common.{◌≡◌, ℕ, ◌+◌, ◌<◌, ◌≤◌, List, [], ◌∷◌, ◌++◌, length, map, take}
-use Rattle.std.proofs.Common.{get_or, sym, ap, ◌∙◌}
+use Rattle.std.proofs.Common.{get_or, refl, sym, ap, ◌∙◌, arith}
 use Rattle.std.specs.List.{flat_map, join_with_byte}
-use Rattle.std.proofs.lemmas.List.{append_assoc, append-nil, flat_map_more, take_more, take_all}
+use Rattle.std.proofs.lemmas.List.{append_assoc, append-nil, length-append, flat_map_more, take_more, take_all, take-take, take_at}
 use Rattle.std.proofs.lemmas.List.Folds.{flat_map-map}
 use Rattle.mat_words.specs.Lines.{Line, text_of}
 use Rattle.mat_words.specs.Writing.{spaced}
@@ -40,3 +41,14 @@ pub line_written : {A : Type 0} (f : A → List ℕ) (old w : List ℕ) (xs : Li
     → new ≡ old ++ text_of ((w ∷ map f xs) ∷ [])
 line_written f old w xs n out new done so_far last =
     words_written old w (map f xs) out new (words_done f (old ++ w) xs n out done so_far) last
+
+-- where nothing was written, what stood there still does
+pub front_unchanged : (old new : List ℕ) → new ≡ old → take (length old) new ≡ old
+front_unchanged old new same = ap (λ (t : List ℕ). take (length old) t) same ∙ take_all (length old) old (omega arith)
+
+-- where the words so far are still in front, so is what stood there before them
+pub front_kept : (old written out new : List ℕ) → out ≡ old ++ written → take (length out) new ≡ out → take (length old) new ≡ old
+front_kept old written out new so_far kept =
+    let longer : length old ≤ length out = omega (arith, ap length so_far, length-append old written) in
+    sym (take-take (length old) (length out) new longer) ∙ ap (λ (t : List ℕ). take (length old) t) (kept ∙ so_far)
+    ∙ take_at old written (length old) refl

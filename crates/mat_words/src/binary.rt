@@ -1,6 +1,6 @@
 //! Words that are binary numbers, the highest digit first.
 
-ghost use Rattle.std.specs.{Prelude.{◌≡◌, ◌<◌, ◌≤◌, ◌+◌, ◌^◌, ◌++◌, ◌||◌, ◌==◌, IfOk, OnOk}, Int.{bit_at}};
+ghost use Rattle.std.specs.{Prelude.{◌≡◌, ◌<◌, ◌≤◌, ◌+◌, ◌^◌, ◌++◌, ◌||◌, ◌==◌, IfOk, OnErr, OnOk, length, take}, Int.{bit_at}};
 ghost use Rattle.mat_words.specs.Binary.{binary, binary_in};
 
 use crate::numbers::NumberFault;
@@ -44,7 +44,8 @@ fn binary_digit(number: u128, place: u32) -> u8
 
 /// Appends the last binary digits of a number, as many as are asked for. After an AllocError some of them may stand behind what `out` had.
 pub fn put_binary(out: &mut Vec<u8>, digits: u32, number: u128) -> Result<(), AllocError>
-    ensures { OnOk result (out.new.items ≡ out.old.items ++ binary digits number) }
+    ensures ok { OnOk result (out.new.items ≡ out.old.items ++ binary digits number) }
+    ensures err { OnErr result (take (length out.old.items) out.new.items ≡ out.old.items) }
 {
     for place in (0..digits).rev() {
         out.push(binary_digit(number, place))?;

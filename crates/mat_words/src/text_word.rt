@@ -1,6 +1,6 @@
 //! Words of a text, of any kind.
 
-ghost use Rattle.std.specs.Prelude.{◌≡◌, ◌++◌, ◌∷◌, map, OnOk};
+ghost use Rattle.std.specs.Prelude.{◌≡◌, ◌++◌, ◌∷◌, OnErr, OnOk, length, map, take};
 ghost use Rattle.mat_words.specs.Writing.{spaced, text_word};
 
 use crate::writing::{put_number_word, put_weight_word};
@@ -20,12 +20,14 @@ pub enum TextWord<'a> {
 
 /// Appends a word, behind a space. After an AllocError the space may stand behind what `out` had.
 pub fn put_text_word(out: &mut Vec<u8>, word: TextWord<'_>) -> Result<(), AllocError>
-    ensures { OnOk result (out.new.items ≡ out.old.items ++ 32 ∷ text_word word.entry) }
+    ensures ok { OnOk result (out.new.items ≡ out.old.items ++ 32 ∷ text_word word.entry) }
+    ensures err { OnErr result (take (length out.old.items) out.new.items ≡ out.old.items) }
 {
     match word {
         TextWord::Fixed(bytes) => {
             out.push(b' ')?;
-            out.extend_from_slice(bytes)
+            out.extend_from_slice(bytes)?;
+            Ok(())
         }
         TextWord::Number(number) => put_number_word(out, number),
         TextWord::Weight(weight) => put_weight_word(out, weight),
@@ -34,7 +36,8 @@ pub fn put_text_word(out: &mut Vec<u8>, word: TextWord<'_>) -> Result<(), AllocE
 
 /// Appends words, each behind a space. After an AllocError a part of them may stand behind what `out` had.
 pub fn put_words(out: &mut Vec<u8>, words: &[TextWord<'_>]) -> Result<(), AllocError>
-    ensures { OnOk result (out.new.items ≡ out.old.items ++ spaced (map text_word words.now)) }
+    ensures ok { OnOk result (out.new.items ≡ out.old.items ++ spaced (map text_word words.now)) }
+    ensures err { OnErr result (take (length out.old.items) out.new.items ≡ out.old.items) }
 {
     for word in words {
         put_text_word(out, *word)?;

@@ -12,4 +12,4 @@ returns c =
     let begun : c.put_words.new.out.items ≡ codes "sample" ++ spaced first = search rules in
     line_of_pieces (codes "sample") first (summary_words (certificate_of c.args.answer.now)) (codes "accepted" ∷ [])
     c.put_words.new.out.items c.put_answer_words.new.out.items c.put_words-2.new.out.items _
-    begun c.in_ok-put_answer_words.ensures c.in_ok-put_words-2.ensures (search rules)
+    begun c.in_ok-put_answer_words.ensures c.in_ok-put_words-2.ensures.ok (search rules)
