@@ -1,6 +1,6 @@
 //! The first lines and the last of a text.
 
-ghost use Rattle.std.specs.Prelude.{◌≡◌, ◌++◌, ◌∷◌, [], codes, map, IfOk, OnOk};
+ghost use Rattle.std.specs.Prelude.{◌≡◌, ◌++◌, ◌∷◌, [], codes, map, IfOk, OnErr, OnOk};
 ghost use Rattle.mat_words.specs.{Lines.{text_of}, Writing.{end_line, text_word}};
 ghost use Rattle.mat_cert.specs.Certificates.{version_line};
 
@@ -17,9 +17,11 @@ pub(crate) fn begun(alloc: Global, words: &[TextWord<'_>]) -> Result<Vec<u8>, Al
     Ok(out)
 }
 
-/// Appends the last line: the word `end` alone.
+/// Appends the last line: the word `end` alone. After an AllocError `out` is as before.
 pub fn put_end_line(out: &mut Vec<u8>) -> Result<(), AllocError>
-    ensures { OnOk result (out.new.items ≡ out.old.items ++ text_of (end_line ∷ [])) }
+    ensures ok { OnOk result (out.new.items ≡ out.old.items ++ text_of (end_line ∷ [])) }
+    ensures err { OnErr result (out.new.items ≡ out.old.items) }
 {
-    out.extend_from_slice(b"end\n")
+    out.extend_from_slice(b"end\n")?;
+    Ok(())
 }

@@ -14,4 +14,4 @@ returns c =
     let begun : c.in_ok-out.out.items ≡ text_of start = search rules in
     five_pieces start (members_line (codes "set") c.args.arcs.now ∷ []) (weights_line (codes "first") c.args.first.now ∷ []) (weights_line (codes "second") c.args.second.now ∷ []) (end_line ∷ [])
     c.in_ok-out.out.items c.put_members_line.new.out.items c.put_weights_line.new.out.items c.put_weights_line-2.new.out.items _
-    begun (search rules) (search rules) (search rules) c.in_ok-put_end_line.ensures
+    begun (search rules) (search rules) (search rules) c.in_ok-put_end_line.ensures.ok

@@ -14,4 +14,4 @@ returns c =
     let begun : c.in_ok-out.out.items ≡ text_of start = search (rules, last) in
     four_pieces start (rungs_lines priced_rung_lines 0 c.args.rungs.now) (members_line (codes "cut") c.args.cut.now ∷ []) (end_line ∷ [])
     c.in_ok-out.out.items c.put_priced_rungs.new.out.items c.put_members_line.new.out.items _
-    begun c.in_ok-put_priced_rungs.ensures (search rules) c.in_ok-put_end_line.ensures
+    begun c.in_ok-put_priced_rungs.ensures (search rules) c.in_ok-put_end_line.ensures.ok

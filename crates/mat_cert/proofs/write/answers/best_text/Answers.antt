@@ -14,4 +14,4 @@ returns c =
     let begun : c.in_ok-out.out.items ≡ text_of start = search (rules, last) in
     three_pieces start (rungs_lines plain_rung_lines 0 c.args.rungs.now) (end_line ∷ [])
     c.in_ok-out.out.items c.put_plain_rungs.new.out.items _
-    begun c.in_ok-put_plain_rungs.ensures c.in_ok-put_end_line.ensures
+    begun c.in_ok-put_plain_rungs.ensures c.in_ok-put_end_line.ensures.ok

@@ -13,4 +13,4 @@ returns c =
     let begun : c.in_ok-out.out.items ≡ text_of start = search rules in
     three_pieces start (sets_lines (codes "class") c.args.classes.now) (end_line ∷ [])
     c.in_ok-out.out.items c.put_set_lines.new.out.items _
-    begun c.in_ok-put_set_lines.ensures c.in_ok-put_end_line.ensures
+    begun c.in_ok-put_set_lines.ensures c.in_ok-put_end_line.ensures.ok

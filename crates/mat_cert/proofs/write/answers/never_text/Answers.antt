@@ -13,4 +13,4 @@ returns c =
     let begun : c.in_ok-out.out.items ≡ text_of start = search rules in
     two_pieces start (end_line ∷ [])
     c.in_ok-out.out.items _
-    begun c.in_ok-put_end_line.ensures
+    begun c.in_ok-put_end_line.ensures.ok

@@ -14,4 +14,4 @@ returns c =
     let begun : c.in_ok-out.out.items ≡ text_of start = search rules in
     four_pieces start (sets_lines (codes "part") c.args.parts.now) (map level_line c.args.levels.now) (end_line ∷ [])
     c.in_ok-out.out.items c.put_set_lines.new.out.items c.put_level_lines.new.out.items _
-    begun c.in_ok-put_set_lines.ensures c.in_ok-put_level_lines.ensures c.in_ok-put_end_line.ensures
+    begun c.in_ok-put_set_lines.ensures c.in_ok-put_level_lines.ensures c.in_ok-put_end_line.ensures.ok

@@ -13,4 +13,4 @@ returns c =
     let begun : c.in_ok-out.out.items ≡ text_of start = search rules in
     three_pieces start (members_line (codes "vertices") c.args.set.now ∷ []) (end_line ∷ [])
     c.in_ok-out.out.items c.put_members_line.new.out.items _
-    begun (search rules) c.in_ok-put_end_line.ensures
+    begun (search rules) c.in_ok-put_end_line.ensures.ok

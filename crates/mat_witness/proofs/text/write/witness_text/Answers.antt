@@ -20,4 +20,4 @@ returns c =
     five_pieces head (free_lines first (free_part witness.first)) (free_lines second (free_part witness.second))
     (bounds_lines (bounded_trees first second c.args.k c.args.rung.now) (map bound_part witness.bounds.items)) (end_line ∷ [])
     c.put_numbers_line.new.out.items c.put_free.new.out.items c.put_free-2.new.out.items c.put_rung_bounds.new.out.items _
-    begun c.in_ok-put_free.ensures c.in_ok-put_free-2.ensures (rw bounds at c.in_ok-put_rung_bounds.ensures) c.in_ok-put_end_line.ensures
+    begun c.in_ok-put_free.ensures c.in_ok-put_free-2.ensures (rw bounds at c.in_ok-put_rung_bounds.ensures) c.in_ok-put_end_line.ensures.ok
