@@ -25,16 +25,18 @@ task_of (Sample kind size seed) = sample kind size seed
 task_of (Batch list) = batch list.now
 task_of (Convert file) = convert file.now
 
--- a number of trees that a request asks for is in range
+-- a number of trees that a request asks for is in range, and the number of a rung is from 0 to 500
 abbrev pub IsRequestInRange : Request → Type 0
 IsRequestInRange (solve query) = IsQueryInRange query
+IsRequestInRange (witness rung certificate) = rung ≤ most_elements
+IsRequestInRange (verify rung certificate shown) = rung ≤ most_elements
 IsRequestInRange request = Unit {0}
 
 -- the size of a sample is from 1 to 500, and its seed from 1 to 2147483646
 abbrev pub IsSampleInRange : (size seed : ℕ) → Type 0
 IsSampleInRange size seed = ((1 ≤ size) × (size ≤ most_elements)) × ((1 ≤ seed) × (seed ≤ 2147483646))
 
--- a number of trees that a task asks for is in range, and so are the size and the seed of a sample
+-- a number of trees or of a rung that a task asks for is in range, and so are the size and the seed of a sample
 abbrev pub IsTaskInRange : Task → Type 0
 IsTaskInRange (about file request) = IsRequestInRange request
 IsTaskInRange (sample kind size seed) = IsSampleInRange size seed
@@ -49,8 +51,8 @@ IsRequestInRange-prop show = Unit-prop
 IsRequestInRange-prop (solve query) = IsQueryInRange-prop query
 IsRequestInRange-prop cuts = Unit-prop
 IsRequestInRange-prop (check certificate) = Unit-prop
-IsRequestInRange-prop (witness rung certificate) = Unit-prop
-IsRequestInRange-prop (verify rung certificate shown) = Unit-prop
+IsRequestInRange-prop (witness rung certificate) = le_prop
+IsRequestInRange-prop (verify rung certificate shown) = le_prop
 
 -- there is at most one proof that the numbers of a task are in range
 pub IsTaskInRange-prop : (task : Task) → IsProp (IsTaskInRange task)

@@ -22,14 +22,14 @@ pub enum Request<'a> {
     },
     /// A witness for a rung of a certificate.
     Witness {
-        /// The number of the rung.
+        /// The number of the rung, from 0 to 500.
         rung: u32,
         /// The name of the certificate's file.
         certificate: &'a str,
     },
     /// Whether a witness shows a rung of a certificate.
     Verify {
-        /// The number of the rung.
+        /// The number of the rung, from 0 to 500.
         rung: u32,
         /// The name of the certificate's file.
         certificate: &'a str,

@@ -1,7 +1,7 @@
 //! The words of a command line.
 
 ghost use Rattle.std.specs.Prelude.{◌≡◌, ◌≤◌, map, string_bytes, option_map, IfSome};
-ghost use Rattle.mat_sets.specs.Limits.{most_trees};
+ghost use Rattle.mat_sets.specs.Limits.{most_elements, most_trees};
 ghost use Rattle.mat_solve.specs.Queries.{IsQueryInRange};
 ghost use Rattle.mat_command.specs.{
   CommandLines.{query_for, request_for, query_of_trees, number_from, number_up_to, rung_number, kind_in, with_file, with_number, with_two, sample_for, witness_of, with_three, with_four, task_for, begins_with_option, takes_workers, with_option, without_option, command_line},
@@ -79,9 +79,10 @@ fn number_up_to(most: u32, word: &str) -> Option<u32>
     number_from(1, most, word)
 }
 
-// The number of a rung that a word spells.
+// The number of a rung, from 0 to 500, that a word spells: None where it spells none.
 fn rung_number(word: &str) -> Option<u32>
-    ensures { result ≡ rung_number word.now }
+    ensures number { result ≡ rung_number word.now }
+    ensures range { IfSome result (λ k. k ≤ most_elements) }
 {
     number_from(0, LAST_RUNG, word)
 }
