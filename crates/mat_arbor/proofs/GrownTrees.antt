@@ -9,7 +9,7 @@ use Rattle.mat_sets.proofs.Ground.{AllBelow-from_members, below_member, IsSet-al
 use Rattle.mat_sets.proofs.Members.{is_member-head, is_member-minus, is_member-with_one, IsRising-nil, IsRising-with_one}
 use Rattle.mat_sets.proofs.Subsets.{IsSubset-with_one, find_member}
 use Rattle.mat_sets.proofs.Walking.{Reaches-arc, Reaches-itself, Reaches-subset, Reaches-trans}
-use Rattle.mat_sets.proofs.DisjointSets.{no_member, with_one-holds}
+use Rattle.mat_sets.proofs.DisjointSets.{minus_from, no_member, with_one-holds}
 use Rattle.mat_arbor.specs.Growing.{IsGrownTree, Leaves}
 
 stays_with_one : (a : List ℕ) (x y : ℕ) → is_member y a ≡ true → is_member y (with_one a x) ≡ true
@@ -39,6 +39,13 @@ walk_below : (vertices : ℕ) (ends : ℕ → ℕ × ℕ) (along : List ℕ) (v 
 walk_below vertices ends [] v w heads small walk = subst (λ z. z < vertices) walk small
 walk_below vertices ends (a ∷ along) v w heads small walk =
     walk_below vertices ends along (ends a).1 w (λ b m. heads b (or_right (eqb b a) (is_member b along) m)) (heads a (is_member-head a along)) walk.1
+
+-- what is below n and not in the complement is in the set
+in_complement : (n : ℕ) (B : List ℕ) (x : ℕ) → x < n → is_member x (minus (all_below n) B) ≡ false → is_member x B ≡ true
+in_complement n B x small out = elim (cases_Bool (is_member x B)) [
+  | inl here ↦ here
+  | inr gone ↦ absurd (both_ways _ out (minus_from (all_below n) B x (is_member-all_below x n ∙ lt-ltb x n small) gone))
+]
 
 module _ {n : ℕ} {ends : ℕ → ℕ × ℕ} {root : ℕ} {R : List ℕ} (g : IsGrownTree n ends root R) where
   -- an arc that leaves R brings its head
@@ -87,12 +94,8 @@ module _ {n : ℕ} {ends : ℕ → ℕ × ℕ} {root : ℕ} {R : List ℕ} (g : 
   }
     where
       in_R : (v : ℕ) → v < vertices → is_member v R ≡ true
-      in_R v l = elim (cases_Bool (is_member v R)) [
-        | inl h ↦ h
-        | inr o ↦ absurd (both_ways _ (no_member (minus (all_below vertices) R) v (omega (arith, length-complement vertices R set.rising set.below)))
-            (is_member-minus v (all_below vertices) R ∙ and_from (is_member v (all_below vertices)) (not (is_member v R))
-            (is_member-all_below v vertices ∙ lt-ltb v vertices l) (ap not o)))
-      ]
+      in_R v l = in_complement vertices R v l
+          (no_member (minus (all_below vertices) R) v (omega (arith, length-complement vertices R set.rising set.below)))
 
 -- where no arc leaves it and some vertex is outside, no arc enters the rest
 pub unentered_rest : (vertices : ℕ) (arcs : List (ℕ × ℕ)) (root : ℕ) (R : List ℕ) → ((a : ℕ) → a < length arcs → (ends_of arcs a).0 < vertices)
@@ -107,21 +110,13 @@ unentered_rest vertices arcs root R tails g set none few = record {
   };
   none = λ a l. false_from_ne_true _ (λ e.
       let p = and_parts (is_member (ends_of arcs a).1 (minus (all_below vertices) R)) (not (is_member (ends_of arcs a).0 (minus (all_below vertices) R))) e in
-      none a l (record { from = inside (ends_of arcs a).0 (tails a l) (not-true _ p.1); to = (rest (ends_of arcs a).1 p.0).1 }));
+      none a l (record { from = in_complement vertices R (ends_of arcs a).0 (tails a l) (not-true _ p.1); to = (rest (ends_of arcs a).1 p.0).1 }));
 }
   where
     rest : (v : ℕ) → is_member v (minus (all_below vertices) R) ≡ true → (v < vertices) × (is_member v R ≡ false)
     rest v m =
         let p = and_parts (is_member v (all_below vertices)) (not (is_member v R)) (sym (is_member-minus v (all_below vertices) R) ∙ m) in
         (ltb-true v vertices (sym (is_member-all_below v vertices) ∙ p.0), not-true _ p.1)
-
-    -- a vertex that is not in the rest is in R
-    inside : (v : ℕ) → v < vertices → is_member v (minus (all_below vertices) R) ≡ false → is_member v R ≡ true
-    inside v l out = elim (cases_Bool (is_member v R)) [
-      | inl h ↦ h
-      | inr o ↦ absurd (both_ways _ out (is_member-minus v (all_below vertices) R
-          ∙ and_from (is_member v (all_below vertices)) (not (is_member v R)) (is_member-all_below v vertices ∙ lt-ltb v vertices l) (ap not o)))
-    ]
 
 -- ---- there is one or the other
 
