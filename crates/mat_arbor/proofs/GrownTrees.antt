@@ -1,15 +1,17 @@
 -- A tree that grows from the root: it starts at the root alone, an arc that leaves it makes it larger, and where none does it spans all
--- vertices or leaves a set that no arc enters.
+-- vertices or leaves a set that no arc enters, which is what the root does not reach.
 use Rattle.std.proofs.Common.{◌≡◌, ℕ, suc, zero, ◌+◌, ◌-◌, ◌<◌, ◌≤◌, true, false, not, ◌&&◌, eqb, List, [], ◌∷◌, length, ◌⊎◌, inl, inr, refl, sym, ap, ◌∙◌, subst, arith}
 use Rattle.std.proofs.lemmas.Bool.{cases_Bool, eqb-true, ltb-true, lt-ltb, and_parts, and_from, both_ways, false_from_ne_true, not-true, or_cases, or_right, false≢true}
 use Rattle.mat_sets.specs.Sets.{is_member, all_below, minus, with_one, IsSet}
 use Rattle.mat_sets.specs.Graphs.{DirectedWalk, IsSpanningArborescence, Reaches, ends_of, IsUnentered}
 use Rattle.mat_sets.proofs.Cardinalities.{length-with_one}
-use Rattle.mat_sets.proofs.Ground.{AllBelow-from_members, below_member, IsSet-all_below, IsSet-length, IsSet-minus, IsSet-nil, IsSet-with_one, is_member-all_below, length-complement}
+use Rattle.mat_sets.proofs.Crossings.{walk_enters}
+use Rattle.mat_sets.proofs.Ground.{AllBelow-from_members, below_member, IsSet-all_below, IsSet-length, IsSet-minus, IsSet-nil, IsSet-with_one, IsSubset-all_below, is_member-all_below, length-complement}
 use Rattle.mat_sets.proofs.Members.{is_member-head, is_member-minus, is_member-with_one, IsRising-nil, IsRising-with_one}
 use Rattle.mat_sets.proofs.Subsets.{IsSubset-with_one, find_member}
 use Rattle.mat_sets.proofs.Walking.{Reaches-arc, Reaches-itself, Reaches-subset, Reaches-trans}
 use Rattle.mat_sets.proofs.DisjointSets.{minus_from, no_member, with_one-holds}
+use Rattle.mat_arbor.specs.Arborescences.{IsUnreachedSet}
 use Rattle.mat_arbor.specs.Growing.{IsGrownTree, Leaves}
 
 stays_with_one : (a : List ℕ) (x y : ℕ) → is_member y a ≡ true → is_member y (with_one a x) ≡ true
@@ -117,6 +119,23 @@ unentered_rest vertices arcs root R tails g set none few = record {
     rest v m =
         let p = and_parts (is_member v (all_below vertices)) (not (is_member v R)) (sym (is_member-minus v (all_below vertices) R) ∙ m) in
         (ltb-true v vertices (sym (is_member-all_below v vertices) ∙ p.0), not-true _ p.1)
+
+-- the rest is then what the root does not reach: a walk to it would have an arc that enters it, and the tree leads to all others
+pub unreached_rest : (vertices : ℕ) (arcs : List (ℕ × ℕ)) (root : ℕ) (R : List ℕ) → ((a : ℕ) → a < length arcs → (ends_of arcs a).0 < vertices)
+    → IsGrownTree (length arcs) (ends_of arcs) root R → IsSet vertices R
+    → ((a : ℕ) → a < length arcs → Leaves (ends_of arcs) R a → ⊥) → length R < vertices
+    → IsUnreachedSet vertices arcs root (minus (all_below vertices) R)
+unreached_rest vertices arcs root R tails g set none few =
+    let unentered = unentered_rest vertices arcs root R tails g set none few in
+    record {
+      unentered = unentered;
+      unreached = λ v m r.
+          let w = walk_enters (ends_of arcs) (minus (all_below vertices) R) r.along root v r.walk unentered.root_free.free m in
+          both_ways _ (unentered.none w.0 (below_member (IsSet-all_below (length arcs)) (r.inside.inside w.0 w.1))) w.2;
+      reached = λ v l out.
+          Reaches-subset (ends_of arcs) g.tree (all_below (length arcs)) root v (IsSubset-all_below (length arcs) g.tree g.arcs.below)
+          (g.reached v (in_complement vertices R v l out));
+    }
 
 -- ---- there is one or the other
 

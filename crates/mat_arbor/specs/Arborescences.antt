@@ -1,7 +1,8 @@
--- Least spanning arborescences with a split of the costs that proves them least, and vertex sets that no arc enters (Schrijver, chapter 52;
--- the split is Frank's).
+-- Least spanning arborescences with a split of the costs that proves them least, and the vertices that the root does not reach (Schrijver,
+-- chapter 52; the split is Frank's).
 use Rattle.std.specs.Prelude.{◌≡◌, ℕ, ◌<◌, Bool, true, false, List, length}
-use Rattle.mat_sets.specs.Graphs.{IsSpanningArborescence, ends_of, IsUnentered}
+use Rattle.mat_sets.specs.Graphs.{IsSpanningArborescence, Reaches, ends_of, IsUnentered}
+use Rattle.mat_sets.specs.Sets.{is_member, all_below}
 use Rattle.mat_sets.specs.Weights.{◌⊕◌, negated, weight_at, AreWeightsWithin}
 use Rattle.mat_sets.specs.declared.weight.Weight.{Weight}
 use Rattle.mat_laws.specs.Heaviest.{IsHeaviest}
@@ -27,12 +28,19 @@ pub record IsSplitArborescence (vertices : ℕ) (arcs : List (ℕ × ℕ)) (cost
 abbrev pub HasNoArborescence : ℕ → List (ℕ × ℕ) → ℕ → Type 0
 HasNoArborescence vertices arcs root = (X : List ℕ) → ¬ IsSpanningArborescence vertices (length arcs) (ends_of arcs) root X
 
--- a right answer: a spanning arborescence with its split, within the bound; or a set that no arc enters
+-- a vertex set that is not empty, lacks the root and is entered by no arc, and that holds exactly the vertices to which no walk along arcs
+-- leads from the root
+pub record IsUnreachedSet (vertices : ℕ) (arcs : List (ℕ × ℕ)) (root : ℕ) (set : List ℕ) : Type 0 where
+  pub unentered : IsUnentered vertices arcs root set
+  pub unreached : (v : ℕ) → is_member v set ≡ true → ¬ Reaches (ends_of arcs) (all_below (length arcs)) root v
+  pub reached : (v : ℕ) → v < vertices → is_member v set ≡ false → Reaches (ends_of arcs) (all_below (length arcs)) root v
+
+-- a right answer: a spanning arborescence with its split, within the bound; or the set of the vertices that the root does not reach
 abbrev pub IsRightArbor : ℕ → List (ℕ × ℕ) → List Weight → ℕ → Arbor → Type 0
 IsRightArbor vertices arcs costs root (Tree tree first second) =
     IsSplitArborescence vertices arcs costs root tree first second × AreWeightsWithin (split_bound (length arcs)) first
     × AreWeightsWithin (split_bound (length arcs)) second
-IsRightArbor vertices arcs costs root (Unreached set) = IsUnentered vertices arcs root set
+IsRightArbor vertices arcs costs root (Unreached set) = IsUnreachedSet vertices arcs root set
 
 -- whether the answer is that there is none
 abbrev pub is_unreached : Arbor → Bool

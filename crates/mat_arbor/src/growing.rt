@@ -1,7 +1,7 @@
 //! What the root reaches.
 ghost use Rattle.std.specs.Prelude.{◌<◌, ℕ, length, IfOk, MatchOption};
-ghost use Rattle.mat_sets.specs.Graphs.{ends_of, IsGraph, IsUnentered};
-ghost use Rattle.mat_arbor.specs.{Arborescences.{HasNoArborescence}, Growing.{IsGrownTree, Leaves}};
+ghost use Rattle.mat_sets.specs.Graphs.{ends_of, IsGraph};
+ghost use Rattle.mat_arbor.specs.{Arborescences.{HasNoArborescence, IsUnreachedSet}, Growing.{IsGrownTree, Leaves}};
 
 use mat_sets::ElemSet;
 use std::alloc::{AllocError, Global};
@@ -42,7 +42,7 @@ pub(crate) fn unreached_from(
     requires graph { IsGraph vertices arcs.now }
     requires root { root < vertices }
     requires none { HasNoArborescence vertices arcs.now root }
-    ensures { IfOk result (IsUnentered vertices arcs.now root) }
+    ensures { IfOk result (IsUnreachedSet vertices arcs.now root) }
 {
     let reached = reached_from(alloc, arcs, root)?;
     let rest = ElemSet::all_below(alloc, vertices)?.minus(alloc, &reached)?;

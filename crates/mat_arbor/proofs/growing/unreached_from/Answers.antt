@@ -1,9 +1,9 @@
 use Rattle.std.proofs.Common.{◌∙◌, ℕ, ◌<◌, inl, inr, List, ap, length, subst, sym, arith}
 use Rattle.std.proofs.lemmas.Bool.{cases_lt}
-use Rattle.mat_sets.specs.Graphs.{IsUnentered}
 use Rattle.mat_sets.specs.Sets.{minus}
 use Rattle.mat_sets.proofs.Ground.{IsSet-length}
-use Rattle.mat_arbor.proofs.GrownTrees.{grown_set, grown_spans, unentered_rest}
+use Rattle.mat_arbor.specs.Arborescences.{IsUnreachedSet}
+use Rattle.mat_arbor.proofs.GrownTrees.{grown_set, grown_spans, unreached_rest}
 use Rattle.mat_arbor.proofs.growing.unreached_from.Goals as goal
 
 pub returns : goal.returns
@@ -18,6 +18,6 @@ returns c =
       | inl l ↦ l
       | inr full ↦ absurd (c.requires.none grown.tree (grown_spans grown vertices set (omega (arith, IsSet-length vertices reached set))))
     ] in
-    let rest = unentered_rest vertices arcs root reached c.requires.graph.first grown set c.in_ok-reached.ensures.closed few in
-    subst (IsUnentered vertices arcs root)
+    let rest = unreached_rest vertices arcs root reached c.requires.graph.first grown set c.in_ok-reached.ensures.closed few in
+    subst (IsUnreachedSet vertices arcs root)
     (sym (c.in_ok-rest.ensures.members ∙ ap (λ (all : List ℕ). minus all reached) c.in_ok-all_below.ensures.members)) rest

@@ -1,3 +1,4 @@
+use Rattle.mat_arbor.specs.Arborescences.{IsUnreachedSet}
 use Rattle.mat_check.proofs.ValidGraphs.{rooted_is_graph}
 use Rattle.mat_solve.proofs.TreeSolutions.{arbor_few, arbor_solution, unreached_solution}
 use Rattle.mat_solve.proofs.trees.arborescence.Goals as goal
@@ -29,6 +30,7 @@ returns-in-Tree-clause-solution c =
 pub returns-in-Unreached-clause-solution : goal.returns-in-Unreached-clause-solution
 returns-in-Unreached-clause-solution c =
     let here = c.in-Rooted in
+    let found : IsUnreachedSet here.vertices here.arcs here.root c.in-Unreached.set =
+    rw (c.as_slice.ensures, c.in-Unreached.is) at c.in_ok-found.ensures.right in
     rw (here.is, c.len-count.ensures)
-    (unreached_solution here.vertices here.root here.arcs here.costs (rw here.is at c.requires.valid) c.in-Unreached.set
-    (rw (c.as_slice.ensures, c.in-Unreached.is) at c.in_ok-found.ensures.right))
+    (unreached_solution here.vertices here.root here.arcs here.costs (rw here.is at c.requires.valid) c.in-Unreached.set found.unentered)
