@@ -1,7 +1,7 @@
 -- A tree that grows from the root: it starts at the root alone, an arc that leaves it makes it larger, and where none does it spans all
 -- vertices or leaves a set that no arc enters, which is what the root does not reach.
 use Rattle.std.proofs.Common.{◌≡◌, ℕ, suc, zero, ◌+◌, ◌-◌, ◌<◌, ◌≤◌, true, false, not, ◌&&◌, eqb, List, [], ◌∷◌, length, ◌⊎◌, inl, inr, refl, sym, ap, ◌∙◌, subst, arith}
-use Rattle.std.proofs.lemmas.Bool.{cases_Bool, eqb-true, ltb-true, lt-ltb, and_parts, and_from, both_ways, false_from_ne_true, not-true, or_cases, or_right, false≢true}
+use Rattle.std.proofs.lemmas.Bool.{eqb-true, ltb-true, lt-ltb, and_parts, and_from, both_ways, false_from_ne_true, not-true, or_cases, or_right, false≢true}
 use Rattle.mat_sets.specs.Sets.{is_member, all_below, minus, with_one, IsSet}
 use Rattle.mat_sets.specs.Graphs.{DirectedWalk, IsSpanningArborescence, Reaches, ends_of, IsUnentered}
 use Rattle.mat_sets.proofs.Cardinalities.{length-with_one}
@@ -10,7 +10,7 @@ use Rattle.mat_sets.proofs.Ground.{AllBelow-from_members, below_member, IsSet-al
 use Rattle.mat_sets.proofs.Members.{is_member-head, is_member-minus, is_member-with_one, IsRising-nil, IsRising-with_one}
 use Rattle.mat_sets.proofs.Subsets.{IsSubset-with_one, find_member}
 use Rattle.mat_sets.proofs.Walking.{Reaches-arc, Reaches-itself, Reaches-subset, Reaches-trans}
-use Rattle.mat_sets.proofs.DisjointSets.{minus_from, no_member, with_one-holds}
+use Rattle.mat_sets.proofs.DisjointSets.{in_complement, no_member, with_one-holds}
 use Rattle.mat_arbor.specs.Arborescences.{IsUnreachedSet}
 use Rattle.mat_arbor.specs.Growing.{IsGrownTree, Leaves}
 
@@ -41,13 +41,6 @@ walk_below : (vertices : ℕ) (ends : ℕ → ℕ × ℕ) (along : List ℕ) (v 
 walk_below vertices ends [] v w heads small walk = subst (λ z. z < vertices) walk small
 walk_below vertices ends (a ∷ along) v w heads small walk =
     walk_below vertices ends along (ends a).1 w (λ b m. heads b (or_right (eqb b a) (is_member b along) m)) (heads a (is_member-head a along)) walk.1
-
--- what is below n and not in the complement is in the set
-in_complement : (n : ℕ) (B : List ℕ) (x : ℕ) → x < n → is_member x (minus (all_below n) B) ≡ false → is_member x B ≡ true
-in_complement n B x small out = elim (cases_Bool (is_member x B)) [
-  | inl here ↦ here
-  | inr gone ↦ absurd (both_ways _ out (minus_from (all_below n) B x (is_member-all_below x n ∙ lt-ltb x n small) gone))
-]
 
 module _ {n : ℕ} {ends : ℕ → ℕ × ℕ} {root : ℕ} {R : List ℕ} (g : IsGrownTree n ends root R) where
   -- an arc that leaves R brings its head

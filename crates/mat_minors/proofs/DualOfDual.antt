@@ -1,10 +1,10 @@
 -- The dual of the dual is the matroid: a set that misses a base of the dual lies in each base that misses that one, and the complement of a
 -- base is a base of the dual (Whitney 1935; Schrijver, chapter 39).
 use mathlib.Core.Path.{fun_ext}
-use Rattle.std.proofs.Common.{◌≡◌, ℕ, ◌<◌, ◌++◌, ◌||◌, Bool, true, false, List, [], inl, inr, ap, sym, ◌∙◌}
+use Rattle.std.proofs.Common.{◌≡◌, ℕ, ◌++◌, ◌||◌, Bool, true, false, List, [], inl, inr, ap, sym, ◌∙◌}
 use Rattle.std.proofs.lemmas.Bool.{cases_Bool, both_ways, false_from_ne_true, lt-ltb, ne_eqb}
 use Rattle.mat_sets.specs.Sets.{is_member, IsSubset, with_one, minus, all_below}
-use Rattle.mat_sets.proofs.DisjointSets.{apart_at, apart_from, minus_from, minus_parts, with_one-holds}
+use Rattle.mat_sets.proofs.DisjointSets.{apart_at, apart_from, in_complement, minus_parts, with_one-holds}
 use Rattle.mat_sets.proofs.Ground.{below_member, is_member-all_below, IsSet-all_below, IsSet-minus, IsSet-with_one}
 use Rattle.mat_sets.proofs.Members.{is_member-with_one, IsRising-with_one}
 use Rattle.mat_sets.proofs.Subsets.{union-right, with_one-IsSubset, IsSubset-with_one}
@@ -15,13 +15,6 @@ use Rattle.mat_laws.proofs.Independent.{rising}
 use Rattle.mat_minors.specs.Minors.{is_dual, IsDualIndependent}
 use Rattle.mat_minors.specs.DualLaws.{dual-gives, dual-from}
 use Rattle.mat_minors.specs.MinorLaws.{dual_laws}
-
--- what is below n and not in the complement is in the set
-in_complement : (n : ℕ) (B : List ℕ) (x : ℕ) → x < n → is_member x (minus (all_below n) B) ≡ false → is_member x B ≡ true
-in_complement n B x small out = elim (cases_Bool (is_member x B)) [
-  | inl here ↦ here
-  | inr gone ↦ absurd (both_ways _ out (minus_from (all_below n) B x (is_member-all_below x n ∙ lt-ltb x n small) gone))
-]
 
 module _ {n : ℕ} {p : List ℕ → Bool} (laws : IsMatroid n p) where
   -- each independent set lies in a base

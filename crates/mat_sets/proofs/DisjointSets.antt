@@ -1,12 +1,13 @@
 -- Members of a difference; what it means that a difference or an intersection of two sets is empty; and unions of disjoint sets.
 use Rattle.std.proofs.Common.{◌≡◌, ℕ, ◌+◌, ◌<◌, true, false, not, eqb, List, [], ◌∷◌, length, inl, inr, refl, sym, ap, ◌∙◌, arith}
-use Rattle.std.proofs.lemmas.Bool.{cases_Bool, or_cases, and_parts, and_from, eqb-true, eq-eqb, false≢true, both_ways, false_from_ne_true, not-true, cases_eq, ne_eqb}
+use Rattle.std.proofs.lemmas.Bool.{cases_Bool, or_cases, and_parts, and_from, eqb-true, eq-eqb, false≢true, both_ways, false_from_ne_true, lt-ltb, not-true, cases_eq, ne_eqb}
 use Rattle.std.proofs.lemmas.List.{nil_from_length}
-use Rattle.mat_sets.specs.Sets.{is_member, IsRising, IsSubset, with_one, minus, intersection, union, without_one}
+use Rattle.mat_sets.specs.Sets.{all_below, is_member, IsRising, IsSubset, with_one, minus, intersection, union, without_one}
 use Rattle.mat_sets.proofs.Members.{set_members, same_members, is_member-with_one, is_member-head, is_member-minus, is_member-intersection, is_member-union, IsRising-nil, IsRising-with_one, IsRising-union, IsRising-minus, IsRising-intersection, IsRising-without_one}
 use Rattle.mat_sets.proofs.Subsets.{length-subset, union-IsSubset}
 use Rattle.mat_sets.proofs.Cardinalities.{length-union_apart, length-minus-intersection}
 use Rattle.mat_sets.proofs.Equalities.{intersection-commute}
+use Rattle.mat_sets.proofs.Ground.{is_member-all_below}
 
 -- a list with no members is empty
 pub no_members : (xs : List ℕ) → ((x : ℕ) → is_member x xs ≡ true → ⊥) → xs ≡ []
@@ -26,6 +27,13 @@ minus_parts X Y x m = let both = and_parts (is_member x X) (not (is_member x Y))
 
 pub minus_from : (X Y : List ℕ) (x : ℕ) → is_member x X ≡ true → is_member x Y ≡ false → is_member x (minus X Y) ≡ true
 minus_from X Y x m out = is_member-minus x X Y ∙ and_from (is_member x X) (not (is_member x Y)) m (ap not out)
+
+-- what is below n and not in the complement is in the set
+pub in_complement : (n : ℕ) (B : List ℕ) (x : ℕ) → x < n → is_member x (minus (all_below n) B) ≡ false → is_member x B ≡ true
+in_complement n B x small out = elim (cases_Bool (is_member x B)) [
+  | inl here ↦ here
+  | inr gone ↦ absurd (both_ways _ out (minus_from (all_below n) B x (is_member-all_below x n ∙ lt-ltb x n small) gone))
+]
 
 -- disjoint sets share no member
 pub apart_at : (X Y : List ℕ) → intersection X Y ≡ [] → (x : ℕ) → is_member x X ≡ true → is_member x Y ≡ false
