@@ -1,5 +1,5 @@
--- Parity checks of the span of a basis. The transpose of reduction by a row makes of a check of the span of the later rows one of the span of
--- these and that row; and a column that fails a check is outside the span.
+-- Parity checks of the span of a basis. The transpose of reduction by a row makes of the transpose of reduction by the later rows that of
+-- reduction by that row and these; and a column that fails a check is outside the span.
 use Rattle.std.proofs.Common.{◌≡◌, ℕ, ◌+◌, ◌-◌, ◌*◌, ◌^◌, ◌<◌, ◌≤◌, Bool, true, false, eqb, ltb, List, [], ◌∷◌, All, length, get_or, drop, inl, inr, refl, sym, ap, ◌∙◌, subst, arith}
 use Rattle.std.proofs.lemmas.Bool.{cases_Bool, cases_lt, false≢true}
 use Rattle.std.proofs.lemmas.List.{drop_all, drop_more}
@@ -14,7 +14,7 @@ use Rattle.mat_gf2.specs.Eliminations.{reduced}
 use Rattle.mat_gf2.specs.InnerProducts.{inner_product_is_one}
 use Rattle.mat_gf2.specs.LeadingBitLaws.{IsLeadingBit, bit_cases, reduced-set, reduced-clear}
 use Rattle.mat_gf2.specs.TaggedColumns.{reduced_tagged, reduced_tagged_by}
-use Rattle.mat_gf2.specs.ParityChecks.{IsParityCheck}
+use Rattle.mat_gf2.specs.ParityChecks.{IsParityCheck, IsTransposed}
 use Rattle.mat_gf2.proofs.InnerProducts.{differ, inner_product_is_one-xor, inner_product_is_one-xor_right, inner_product_is_one-zero_right, inner_product_is_one-power}
 use Rattle.mat_gf2.proofs.Tags.{reduced_tagged-column}
 
@@ -64,27 +64,32 @@ module _ (check row : ℕ) where
 
 -- ---- from the last row to the first
 
--- no row: nothing is left of zero alone
-pub IsParityCheck-start : (basis : List TaggedColumn) (count start : ℕ) → count ≡ length basis → IsParityCheck (drop count basis) start
-IsParityCheck-start basis count start same =
-    subst (λ rows. IsParityCheck rows start) (sym (drop_all count basis (omega arith))) none
+-- no row leaves each column as it is
+pub IsTransposed-start : (basis : List TaggedColumn) (count start : ℕ) → count ≡ length basis → IsTransposed (drop count basis) start start
+IsTransposed-start basis count start same =
+    subst (λ rows. IsTransposed rows start start) (sym (drop_all count basis (omega arith))) none
   where
-    none : IsParityCheck [] start
-    none = record { passes = λ v zero. ap (inner_product_is_one start) zero ∙ inner_product_is_one-zero_right start }
+    none : IsTransposed [] start start
+    none = record { same = λ v. refl }
 
 -- the row before a place
-pub IsParityCheck-more : (basis : List TaggedColumn) (d : TaggedColumn) (place check new : ℕ) → 0 < place → place ≤ length basis
+pub IsTransposed-more : (basis : List TaggedColumn) (d : TaggedColumn) (place start check new : ℕ) → 0 < place → place ≤ length basis
     → ((v : ℕ) → inner_product_is_one new v ≡ inner_product_is_one check (reduced v (get_or basis (place - 1) d).column))
-    → IsParityCheck (drop place basis) check → IsParityCheck (drop (place - 1) basis) new
-IsParityCheck-more basis d place check new some within told h =
+    → IsTransposed (drop place basis) start check → IsTransposed (drop (place - 1) basis) start new
+IsTransposed-more basis d place start check new some within told h =
     let row = get_or basis (place - 1) d in
     let next : place - 1 + 1 ≡ place = omega arith in
     let before : drop (place - 1) basis ≡ row ∷ drop place basis =
     drop_more basis (place - 1) d (omega arith) ∙ ap (λ k. row ∷ drop k basis) next in
-    subst (λ rows. IsParityCheck rows new) (sym before) (record {
-      passes = λ v nothing. told v.column ∙ ap (inner_product_is_one check) (sym (reduced_tagged-column v row))
-          ∙ h.passes (reduced_tagged v row) nothing;
+    subst (λ rows. IsTransposed rows start new) (sym before) (record {
+      same = λ v. told v.column ∙ ap (inner_product_is_one check) (sym (reduced_tagged-column v row)) ∙ h.same (reduced_tagged v row);
     })
+
+-- a column of which nothing is left passes what was transposed
+pub IsTransposed-check : (basis : List TaggedColumn) (start check : ℕ) → IsTransposed basis start check → IsParityCheck basis check
+IsTransposed-check basis start check h = record {
+  passes = λ v nothing. h.same v ∙ ap (inner_product_is_one start) nothing ∙ inner_product_is_one-zero_right start;
+}
 
 -- ---- outside the span
 

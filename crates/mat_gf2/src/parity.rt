@@ -1,6 +1,6 @@
 //! Parity checks of the span of a basis, as those of a linear code over the field of two elements.
-ghost use Rattle.std.specs.{Prelude.{◌≡◌, ℕ, All, IfOk}, List.{list_any}};
-ghost use Rattle.mat_gf2.specs.{Eliminations.{reduced}, InnerProducts.{inner_product_is_one}, ParityChecks.{IsParityCheck}};
+ghost use Rattle.std.specs.{Prelude.{◌≡◌, ℕ, All, length, IfOk}, List.{list_any}};
+ghost use Rattle.mat_gf2.specs.{Eliminations.{reduced}, InnerProducts.{inner_product_is_one}, ParityChecks.{IsParityCheck, IsTransposed}};
 
 use crate::elimination::TaggedColumn;
 use std::alloc::{AllocError, Global};
@@ -41,7 +41,8 @@ fn transposed(row: u128, check: u128) -> u128
 // A parity check of the span of a basis, from any number: the transposes of reduction by its rows are applied to it, from the
 // last row to the first.
 fn parity_check(basis: &[TaggedColumn], start: u128) -> u128
-    ensures { IsParityCheck basis.now result }
+    ensures transposed { IsTransposed basis.now start result }
+    ensures check { IsParityCheck basis.now result }
 {
     let mut check = start;
     for place in (0..basis.len()).rev() {
@@ -53,9 +54,10 @@ fn parity_check(basis: &[TaggedColumn], start: u128) -> u128
 /// Eight parity checks of the span of a basis, by an inner product for each of them and each column of the basis. The only
 /// error is want of memory.
 pub(crate) fn parity_checks(alloc: Global, basis: &[TaggedColumn]) -> Result<Vec<u128>, AllocError>
-    ensures { IfOk result (λ checks. All (IsParityCheck basis.now) checks.items) }
+    ensures eight { IfOk result (λ checks. length checks.items ≡ 8) }
+    ensures checks { IfOk result (λ checks. All (IsParityCheck basis.now) checks.items) }
 {
-    let mut checks = Vec::new(alloc);
+    let mut checks = Vec::with_capacity(alloc, STARTS.len())?;
     for start in STARTS {
         checks.push(parity_check(basis, start))?;
     }

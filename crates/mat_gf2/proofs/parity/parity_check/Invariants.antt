@@ -1,7 +1,7 @@
--- The number is a parity check of the span of the rows from the place on.
+-- The rows from the place on are transposed.
 use Rattle.std.proofs.Common.{drop}
-use Rattle.mat_gf2.specs.ParityChecks.{IsParityCheck}
+use Rattle.mat_gf2.specs.ParityChecks.{IsTransposed}
 use Rattle.mat_gf2.proofs.parity.parity_check.Given as goal
 
 abbrev pub invariant-loop-place : goal.invariant-loop-place
-invariant-loop-place l = IsParityCheck (drop l.place l.basis) l.check
+invariant-loop-place l = IsTransposed (drop l.place l.basis) l.start l.check

@@ -27,5 +27,5 @@ returns c =
     let same : c.deref.result.now ≡ c.args.self.now.columns = c.deref.ensures.value ∙ ap (λ m. m.columns) c.self.view_is in
     record {
       tagged = subst (λ s. IsTaggedBasis (column_of s) base base c.in_ok-rows.rows.items) same c.in_ok-rows.ensures.basis;
-      checks = subst (λ rows. All (IsParityCheck rows) c.in_ok-checks.checks.items) c.deref-2.ensures.value c.in_ok-checks.ensures;
+      checks = subst (λ rows. All (IsParityCheck rows) c.in_ok-checks.checks.items) c.deref-2.ensures.value c.in_ok-checks.ensures.checks;
     }
