@@ -1,5 +1,5 @@
 //! The exchanges of an element in a matroid of any kind, by what is kept of the set and by recursion on the matroids within it.
-ghost use Rattle.std.specs.Prelude.{◌≡◌, ◌<◌, ℕ, true, false, [], length, map, IfOk, IfSome};
+ghost use Rattle.std.specs.Prelude.{◌≡◌, ◌<◌, ℕ, true, false, [], length, map, IfNone, IfOk, IfSome};
 ghost use Rattle.mat_sets.specs.{Families.{family_union}, Sets.{IsRising, IsSet, is_member, union}};
 ghost use Rattle.mat_laws.specs.{Columns.{AreColumns}, Exchanges.{circuit_members, row_of}, Matroids.{IsMaximal}};
 ghost use Rattle.mat_minors.specs.{DualRows.{IsDualKept}, Minors.{is_contracted, is_dual, is_restricted, is_truncated}};
@@ -442,6 +442,10 @@ fn part_that_takes(
     requires below { x < size_in matroids.now }
     ensures below { IfOk result (λ found. IfSome found (λ q. q < length parts.now)) }
     ensures takes { IfOk result (λ found. IfSome found (λ q. (exchanges_with (map test_in matroids.now) parts.now q).adds x ≡ true)) }
+    ensures first { IfOk result (λ found. IfSome found (λ q. (i : ℕ) → i < q
+        → (exchanges_with (map test_in matroids.now) parts.now i).adds x ≡ false)) }
+    ensures none { IfOk result (λ found. IfNone found ((i : ℕ) → i < length parts.now
+        → (exchanges_with (map test_in matroids.now) parts.now i).adds x ≡ false)) }
 {
     for i in 0..matroids.len() {
         if adds_at(alloc, &matroids[i], parts.get(i), &kept[i], x)? {
@@ -451,8 +455,8 @@ fn part_that_takes(
     Ok(None)
 }
 
-/// A place for x: a part to which it can be added, or moves along a path, of x and of elements among these; else the search that is
-/// stuck. The only error is want of memory.
+/// Moves that bring x into the parts: one into the first part to which it can be added, else those along a path, of x and of elements among
+/// these; where there are none, the search that is stuck. The only error is want of memory.
 pub(crate) fn place_for(
     alloc: Global,
     matroids: &[AnyMatroid],

@@ -257,7 +257,7 @@ fn take_turn(
 }
 
 // Makes moves. A part that one of them enters or leaves becomes the one after all of them, and what its matroid keeps of it is made from
-// what it kept before.
+// what it kept before. The only error is want of memory: then each part is the old or the new one, with what is kept of that.
 #[cycle(running)]
 fn make_moves(
     alloc: Global,

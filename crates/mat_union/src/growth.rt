@@ -15,6 +15,7 @@ ghost use Rattle.std.specs.Prelude.{
   map,
   slice_set,
   None,
+  IfNone,
   IfOk,
   IfSome,
   OnErr,
@@ -185,7 +186,7 @@ pub fn put_kept<K: Drop>(kept: &mut Vec<K>, i: usize, one: K)
 }
 
 /// Makes moves. A part that one of them enters or leaves becomes the one after all of them, and what its matroid keeps of it is made from
-/// what it kept before.
+/// what it kept before. The only error is want of memory: then each part is the old or the new one, with what is kept of that.
 fn make_moves<M: Asked>(
     alloc: Global,
     matroids: &[M],
@@ -230,6 +231,10 @@ fn part_that_takes<M: Asked>(
     requires below { x < _n }
     ensures below { IfOk result (λ found. IfSome found (λ q. q < length parts.now)) }
     ensures takes { IfOk result (λ found. IfSome found (λ q. (exchanges_with (map M.indep matroids.now) parts.now q).adds x ≡ true)) }
+    ensures first { IfOk result (λ found. IfSome found (λ q. (i : ℕ) → i < q
+        → (exchanges_with (map M.indep matroids.now) parts.now i).adds x ≡ false)) }
+    ensures none { IfOk result (λ found. IfNone found ((i : ℕ) → i < length parts.now
+        → (exchanges_with (map M.indep matroids.now) parts.now i).adds x ≡ false)) }
 {
     for i in 0..matroids.len() {
         if adds_at(alloc, &matroids[i], parts.get(i), &kept[i], x)? {
@@ -239,8 +244,8 @@ fn part_that_takes<M: Asked>(
     Ok(None)
 }
 
-/// A place for x: a part to which it can be added, or moves along a path, of x and of elements among these; else the search that is stuck
-/// (Schrijver, chapter 42).
+/// Moves that bring x into the parts: one into the first part to which it can be added, else those along a path, of x and of elements among
+/// these; where there are none, the search that is stuck (Schrijver, chapter 42). The only error is want of memory.
 fn place_for<M: Asked>(
     alloc: Global,
     matroids: &[M],
@@ -269,7 +274,7 @@ fn place_for<M: Asked>(
 }
 
 /// Brings x into the parts by moves along a path, of x and of elements among these, or else gives back the search that is stuck; what
-/// changed is kept anew (Schrijver, chapter 42).
+/// changed is kept anew (Schrijver, chapter 42). The only error is want of memory: then some of the parts may have changed.
 pub(crate) fn place<M: Asked>(
     alloc: Global,
     matroids: &[M],

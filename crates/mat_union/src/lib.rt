@@ -24,8 +24,9 @@ pub use filling::{Filled, fill_parts};
 pub use moved_sets::members_of;
 pub use union_of::UnionOf;
 
-// The search for moves over rows that are all at hand.
+// The search for moves over rows that are all at hand, and a part after moves.
 pub use exchange_list::ExchangeList;
+pub use moved_sets::moved_part;
 pub use moves::{Move, Moves};
 pub use search::union_search;
 
@@ -36,4 +37,4 @@ pub use growth::{Growth, mark_spanned, put_kept};
 pub use kept_parts::KeptParts;
 pub use move_graph::stands;
 pub use move_search::{MoveSearch, Question};
-pub use moved_sets::{is_entered_or_left, move_into, moved_part};
+pub use moved_sets::{is_entered_or_left, move_into};

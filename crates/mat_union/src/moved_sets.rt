@@ -36,7 +36,7 @@ pub fn moved_part(
     Ok(set)
 }
 
-/// Whether the move of an element changes the part: it leads into it, as is told, or takes a member away.
+/// Whether a move of this element changes the part: it leads into the part, as `enters` says, or takes a member away.
 fn is_changed_by(part: &ElemSet, element: u32, enters: bool) -> bool
     ensures { result ≡ (enters || is_member element part.now) }
 {

@@ -1,0 +1,8 @@
+-- None of the first parts takes x.
+use Rattle.std.proofs.Common.{◌≡◌, ℕ, ◌<◌, false, map}
+use Rattle.mat_union.specs.Moves.{exchanges_with}
+use Rattle.mat_any.specs.Joined.{test_in}
+use Rattle.mat_any.proofs.rows.part_that_takes.Given as goal
+
+abbrev pub invariant-loop-i : goal.invariant-loop-i
+invariant-loop-i l = (k : ℕ) → k < l.i → (exchanges_with (map test_in l.matroids) l.parts k).adds l.x ≡ false
