@@ -219,8 +219,9 @@ pub(crate) fn filled_in_turn<M: Matroid>(
     Ok(ExchangesAt { kept, table })
 }
 
-/// The same by 1 to 16 workers. One worker alone enters each row as soon as it is made, and makes none for an element that can be added; of
-/// more, each computes rows, one after the other, and the caller enters them into the table.
+/// The exchanges at an independent set, once all missing rows are entered by 1 to 16 workers. One worker alone enters each row as soon as it is
+/// made, and makes none for an element that can be added; of more, each computes rows, one after the other, and the caller enters them into the
+/// table. The only error is want of memory.
 pub(crate) fn filled<R: Threads + Sync, M: Matroid>(
     rt: &R,
     alloc: Global,

@@ -17,9 +17,10 @@ pub(crate) struct PartialTable {
     pub(crate) columns: RowList,
 }
 
-/// Whether a set has a member; if not, the set is empty.
+/// Whether a set has a member.
 fn has_member(set: &BitSet) -> bool
-    ensures { result ≡ false → (x : ℕ) → is_member x set.now ≡ false }
+    ensures some { result ≡ true → (x : ℕ) × (is_member x set.now ≡ true) }
+    ensures none { result ≡ false → (x : ℕ) → is_member x set.now ≡ false }
 {
     set.next_from(0).is_some()
 }

@@ -25,7 +25,7 @@ returns c = λ exchanges long stays.
       | then-has_member w ↦ rw (w.rows-is, w.columns-is) (IsFilledTable-reopened c.args.table exchanges c.args.lost.now c.args.missing.now _ _ _ _
           told.count told.columns told.rows told.transposed w.empty_rows.ensures.count w.empty_rows.ensures.rows w.remove_from_each.ensures
           c.requires.lost c.requires.bare c.requires.added long stays)
-      | else-has_member w ↦ (let none = c.has_member.ensures w.if-has_member.false in
+      | else-has_member w ↦ (let none = c.has_member.ensures.none w.if-has_member.false in
           rw (w.rows-is, w.columns-is) (IsFilledTable-reopened c.args.table exchanges c.args.lost.now c.args.missing.now _ _ _ _
           told.count told.columns told.rows told.transposed refl (λ k. sym (cond-false (is_member k c.args.lost.now) [] _ (none k)))
           (none_removed c.args.lost.now _ none) c.requires.lost c.requires.bare c.requires.added long stays))
