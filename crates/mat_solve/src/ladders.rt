@@ -1,8 +1,9 @@
 //! Ladders: heaviest sets of each size.
 
-ghost use Rattle.std.specs.Prelude.{◌≡◌, ◌≤◌, true, length, map, IfOk};
+ghost use Rattle.std.specs.Prelude.{◌≡◌, ◌≤◌, ◌||◌, if◌then◌else◌, true, length, map, IfOk};
 ghost use Rattle.mat_sets.specs.{Limits.{most_elements, largest_number}, Sets.{AllBelow}, Weights.{AreWeightsWithin}};
 ghost use Rattle.mat_work.specs.Workers.{AreWorkers};
+ghost use Rattle.mat_any.specs.{Trees.{has_union}, Views.{tree_of}};
 ghost use Rattle.mat_check.specs.Fitting.{is_single, is_pair, is_coloured, is_table};
 ghost use Rattle.mat_problem.specs.{Views.{instance_of}, Validity.{IsValid}, Soundness.{IsSoundInstance}};
 ghost use Rattle.mat_cert.specs.Views.{certificate_of};
@@ -15,6 +16,7 @@ ghost use Rattle.mat_solve.specs.{
 use crate::forms::only_matroid;
 use crate::query::Query;
 use crate::workers::SolveWorkers;
+use mat_any::{AnyMatroid, has_union};
 use mat_cert::{Answer, PlainRung, PricedRung};
 use mat_greedy::heaviest_each;
 use mat_laws::Matroid;
@@ -92,7 +94,21 @@ pub(crate) fn best(alloc: Global, problem: &Problem) -> Result<Answer, AllocErro
     })
 }
 
-/// A heaviest common independent set of two matroids for each size, found by so many workers. The only error is want of memory.
+// How many of the workers pay where rows of two matroids are made: all where a union stands within one of them, since each row takes a search
+// then, and else one, since a row takes less time than a thread takes to start.
+fn worthwhile_workers(first: &AnyMatroid, second: &AnyMatroid, workers: u32) -> u32
+    requires { AreWorkers workers }
+    ensures count { result ≡ (if has_union (tree_of first.now) || has_union (tree_of second.now) then workers else 1) }
+    ensures range { AreWorkers result }
+{
+    if has_union(first) || has_union(second) {
+        workers
+    } else {
+        1
+    }
+}
+
+/// A heaviest common independent set of two matroids for each size, found by at most so many workers. The only error is want of memory.
 pub(crate) fn intersect<R: SolveWorkers>(
     rt: &R,
     alloc: Global,
@@ -117,6 +133,7 @@ pub(crate) fn intersect<R: SolveWorkers>(
     };
     first.lawful();
     second.lawful();
+    let workers = worthwhile_workers(first, second, workers);
     let ladder = rt.ladder_of(alloc, first, second, weights.as_slice(), workers)?;
     let rungs = priced_rungs(alloc, ladder.rungs, weights.as_slice())?;
     Ok(Answer::Intersect {

@@ -11,7 +11,6 @@ use crate::query::Query;
 use crate::sets::{cover, pack, union};
 use crate::trees::{arborescence, disjoint, trees};
 use crate::workers::SolveWorkers;
-use mat_any::has_union;
 use mat_cert::Answer;
 use mat_problem::Problem;
 use std::alloc::{AllocError, Global};
@@ -36,7 +35,7 @@ pub fn solve<R: SolveWorkers>(
 {
     match query {
         Query::Best => best(alloc, problem),
-        Query::Intersect => intersect(rt, alloc, problem, worthwhile_workers(problem, workers)),
+        Query::Intersect => intersect(rt, alloc, problem, workers),
         Query::Union => union(alloc, problem),
         Query::Pack => pack(alloc, problem),
         Query::Cover => cover(alloc, problem),
@@ -45,23 +44,5 @@ pub fn solve<R: SolveWorkers>(
         Query::Disjoint(k) => disjoint(alloc, problem, k),
         Query::Rainbow => rainbow(alloc, problem, workers),
         Query::Assign => assign(alloc, problem, workers),
-    }
-}
-
-/// How many of the workers pay where a solver makes rows of the problem's matroids: all where a union stands within one of a pair, since each
-/// row takes a search then, and else one, since a row takes less time than a thread takes to start.
-fn worthwhile_workers(problem: &Problem, workers: u32) -> u32
-    requires { AreWorkers workers }
-    ensures { AreWorkers result }
-{
-    match problem {
-        Problem::Pair { first, second, .. } => {
-            if has_union(first) || has_union(second) {
-                workers
-            } else {
-                1
-            }
-        }
-        _ => 1,
     }
 }
