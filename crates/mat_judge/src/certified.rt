@@ -28,7 +28,7 @@ const CERTIFICATE_LIMIT: usize = 67_108_864;
 #[derive(Clone, Copy, Debug, Error)]
 pub enum Uncertified {
     /// It was not read, or memory ran out.
-    #[error("the certificate was not read")]
+    #[error("the certificate was not read: {0}")]
     Unread(Unread),
     /// Its first fault, and the number of its line.
     #[error("line {1} of the certificate: {0:?}")]

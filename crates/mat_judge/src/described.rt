@@ -21,7 +21,7 @@ const DESCRIPTION_LIMIT: usize = 4_194_304;
 #[derive(Clone, Copy, Debug, Error)]
 pub enum Undescribed {
     /// It was not read, or memory ran out.
-    #[error("the description was not read")]
+    #[error("the description was not read: {0}")]
     Unread(Unread),
     /// Its first fault, and the number of its line.
     #[error("line {1} of the description: {0:?}")]

@@ -38,7 +38,7 @@ pub enum Denial {
     #[error("line {1} of the certificate: {0:?}")]
     BadCertificate(CertKind, u32),
     /// The form of the problem is not the command's or the certificate's, or the certificate has no such rung.
-    #[error("the form of the problem is not the command's")]
+    #[error("the form of the problem is not the command's or the certificate's, or there is no such rung")]
     WrongShape,
     /// A matroid is not of a kind that has witnesses.
     #[error("a matroid is not of a kind that has witnesses")]

@@ -15,10 +15,7 @@ pub(crate) fn put_all<O: Sink>(sink: &mut O, text: &[u8]) -> Result<(), Failed>
 {
     let mut at = 0;
     while at < text.len() {
-        match sink.put(&text[at..]) {
-            Ok(count) => at += count,
-            Err(e) => return Err(e),
-        }
+        at += sink.put(&text[at..])?;
     }
     Ok(())
 }
@@ -31,9 +28,7 @@ pub fn put_texts<O: Sink>(sink: &mut O, texts: &[Vec<u8>]) -> Result<(), Failed>
     ensures cause { OnErr result (Rose (O.faults sink.old) (O.faults sink.new)) }
 {
     for text in texts {
-        if let Err(e) = put_all(sink, text) {
-            return Err(e);
-        }
+        put_all(sink, text)?;
     }
     Ok(())
 }
