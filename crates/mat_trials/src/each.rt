@@ -54,7 +54,7 @@ const WITNESS: Ends = Ends {
 // The texts of a case: of its description, its certificate or list of jobs, and its witness, as far as there are any.
 fn texts_of(alloc: Global, case: &Case) -> Result<Vec<Vec<u8>>, AllocError> {
     let mut texts = Vec::new(alloc);
-    if !case.description.is_empty() {
+    if !case.description.is_empty() || case.certificate.is_some() {
         texts.push(case.description.as_bytes().to_vec(alloc)?)?;
     }
     if let Some(text) = &case.certificate {
