@@ -6,7 +6,7 @@ behind its word, and behind vertices the arcs that enter them; splits, levels an
 
 --best prints the rung of the greatest weight alone, with a line for each name below it; of rungs of the same weight, the largest.
 --split SIZE prints the rung of this size with the sums of first and second over its set, and below it each element of which the second
-part is not 0, with its first and its second part.
+share is not 0, with its first and its second share.
 """
 import argparse
 import sys
@@ -52,14 +52,14 @@ def print_best(elements, rungs):
 
 
 def print_split(elements, rung, size):
-    """Prints the sums of both parts over the set of this rung, and the elements with a second part."""
+    """Prints the sums of both shares over the set of this rung, and the elements with a second share."""
     if "second" not in rung:
         sys.exit(f"names.py: the answer has no rung {size} with a split")
-    first, second = (sum_of(rung[part][int(element)] for element in rung["set"]) for part in ("first", "second"))
+    first, second = (sum_of(rung[share][int(element)] for element in rung["set"]) for share in ("first", "second"))
     print(f"{size} for {rung['weight']}: first {first}, second {second}")
-    for name, *parts in zip(elements, rung["first"], rung["second"]):
-        if parts[1] != "0":
-            print(name, *parts)
+    for name, *shares in zip(elements, rung["first"], rung["second"]):
+        if shares[1] != "0":
+            print(name, *shares)
 
 
 def print_vertices(elements, arcs, places):
