@@ -19,7 +19,9 @@ if len(sys.argv) != 3:
     sys.exit("usage: python3 examples/both_ways.py LINKS.csv ROOT")
 with open(sys.argv[1], encoding="utf-8-sig", newline="") as file:
     lines = file.read().splitlines()
-rows = csv.DictReader(lines, delimiter=";" if ";" in lines[0] else ",")
+rows = list(csv.DictReader(lines, delimiter=";" if lines and ";" in lines[0] else ","))
+if not rows or not {"link", "from", "to"} <= set(rows[0]):
+    sys.exit(f"both_ways.py: {sys.argv[1]}: there have to be lines, with the columns link, from, to")
 links = [[name_of(row[column]) for column in ("link", "from", "to")] for row in rows]
 names = [link for link, _, _ in links]
 places = list(dict.fromkeys(place for _, *ends in links for place in ends))

@@ -8,11 +8,24 @@ import csv
 import sys
 
 
-def rows_of(name):
-    """The lines of a spreadsheet, with their columns by name."""
+def rows_of(name, *columns):
+    """The lines of a spreadsheet, with their columns by name, of which these have to be there."""
     with open(name, encoding="utf-8-sig", newline="") as file:
         lines = file.read().splitlines()
-    return list(csv.DictReader(lines, delimiter=";" if ";" in lines[0] else ","))
+    rows = list(csv.DictReader(lines, delimiter=";" if lines and ";" in lines[0] else ","))
+    if not rows or not set(columns) <= set(rows[0]):
+        sys.exit(f"from_csv.py: {name}: there have to be lines, with the columns {', '.join(columns)}")
+    return rows
+
+
+def limits_of(name):
+    """How many at most, by the name of a shift or a person."""
+    most = {}
+    for row in rows_of(name, "name", "most"):
+        if row["name"] in most:
+            sys.exit(f"from_csv.py: {row['name']}: this name stands twice in {name}")
+        most[row["name"]] = row["most"]
+    return most
 
 
 def name_of(wish):
@@ -44,8 +57,10 @@ def print_limits(kind, word, limits):
         print(word, number, *map(name_of, wishes))
 
 
-wishes = rows_of(sys.argv[1])
-most = {row["name"]: row["most"] for row in rows_of(sys.argv[2])}
+if len(sys.argv) != 3:
+    sys.exit("usage: python3 examples/from_csv.py WISHES.csv LIMITS.csv")
+wishes = rows_of(sys.argv[1], "person", "shift", "gain")
+most = limits_of(sys.argv[2])
 refuse_faults(wishes, most)
 print("matroids 2")
 print("pair", len(wishes))

@@ -112,4 +112,7 @@ def main():
         print_all(elements, vertices, [line.split()[1:3] for line in lines if line.startswith("arc ")], sys.stdin)
 
 
-main()
+try:
+    main()
+except IndexError:
+    sys.exit("names.py: the answer is one to another description: it has numbers that are none of this one's")
