@@ -76,14 +76,16 @@ def call(words: Sequence[str], files: Mapping[str, bytes], room: int = ROOM) -> 
     """Does what the program does for these words, such as ["intersect", "f"], over these files by their names, and raises nothing for a
     refusal. The output has room in so many bytes; a longer one ends with the status 6 and is cut off."""
     texts = [word.encode() for word in words]
-    if any(b"\0" in text for text in texts):
-        raise ValueError("a word with a zero byte")
+    names = [name.encode() for name in files]
+    if any(b"\0" in text for text in [*texts, *names]):
+        raise ValueError("a word or a name with a zero byte")
+    if room < 0:
+        raise ValueError(f"there is no room of {room} bytes")
     memory = _memory(room)
     start = ctypes.c_char.from_buffer(memory)
     note = ctypes.create_string_buffer(_NOTE_ROOM)
     output = _Buffer(ctypes.addressof(start), room, 0)
     noted = _Buffer(ctypes.addressof(note), _NOTE_ROOM, 0)
-    names = [name.encode() for name in files]
     given = (_File * len(files))(*(_File(name, data, len(data)) for name, data in zip(names, files.values())))
     status = _library().matbench_call((ctypes.c_char_p * (len(texts) + 1))(*texts, None), given, ctypes.c_size_t(len(files)),
                                       ctypes.byref(output), ctypes.byref(noted))
@@ -99,8 +101,11 @@ class MatbenchError(Exception):
     status = -1
 
     def __init__(self, status: int, note: str):
-        super().__init__(note or f"status {status}")
+        super().__init__(status, note)
         self.status, self.note = status, note
+
+    def __str__(self) -> str:
+        return self.note or f"status {self.status}"
 
 
 class NotRight(MatbenchError):
@@ -220,6 +225,10 @@ class Weight:
     gain: int
     tie: int
 
+    def __post_init__(self):
+        if self.tie == 0:
+            raise ValueError(f"a weight without a tie is an int: {self.gain}")
+
     def __lt__(self, other: Weight | int) -> bool:
         if not isinstance(other, (Weight, int)):
             return NotImplemented
@@ -307,7 +316,7 @@ class Answer:
         return picture(self.problem, self)
 
     def _repr_svg_(self) -> str | None:
-        """What a notebook shows: the picture, or None where there is none."""
+        """What a notebook shows: the picture."""
         return self.picture()
 
 
@@ -469,8 +478,9 @@ class _Lines:
     def vertices(self, word: str) -> tuple[tuple, ...]:
         return tuple(_labels(self.problem.vertices, rest) for rest in self.all(word))
 
-    def first_of(self, sets: tuple[tuple, ...]) -> tuple | None:
-        return sets[0] if sets else None
+    def cut(self) -> tuple | None:
+        """The elements of the line cut, or None where there is no such line."""
+        return next(iter(self.elements("cut")), None)
 
     def split(self, word: str) -> list[tuple[Weight | int, ...]]:
         return [_weights(rest) for rest in self.all(word)]
@@ -483,7 +493,7 @@ def _ladder(text: _Lines) -> Ladder:
         halves = (firsts[size], seconds[size]) if firsts else ((), ())
         rungs.append(Rung(size, _weight(weight), members, *halves))
     colours = [_labels(text.problem.colours, rest) for rest in text.all("colours")]
-    return Ladder(text.certificate, text.problem, tuple(rungs), text.first_of(text.elements("cut")), colours[0] if colours else None)
+    return Ladder(text.certificate, text.problem, tuple(rungs), text.cut(), colours[0] if colours else None)
 
 
 def _union(text: _Lines) -> Union:
@@ -493,13 +503,13 @@ def _union(text: _Lines) -> Union:
 
 def _packing(text: _Lines) -> Packing:
     is_any = text.header[1] == "any"
-    return Packing(text.certificate, text.problem, None if is_any else text.elements("base"), text.first_of(text.elements("cut")))
+    return Packing(text.certificate, text.problem, None if is_any else text.elements("base"), text.cut())
 
 
 def _covering(text: _Lines) -> Covering:
     if text.header[1] == "never":
         return Covering(text.certificate, text.problem, None, None, _labels(text.problem.elements, text.header[2:]))
-    return Covering(text.certificate, text.problem, text.elements("part"), text.first_of(text.elements("cut")), ())
+    return Covering(text.certificate, text.problem, text.elements("part"), text.cut(), ())
 
 
 def _trees(text: _Lines) -> Trees:
@@ -533,10 +543,13 @@ _READERS: dict[str, Callable[[_Lines], Answer]] = {
     "trees": _trees, "arborescence": _arborescence, "disjoint": _disjoint, "cuts": _priced}
 
 
-def read_answer(problem: Problem, certificate: str) -> Answer:
+def read_answer(problem: Problem, certificate: str | bytes | os.PathLike) -> Answer:
     """The answer that a certificate is, which the program printed for this problem or for which check is true."""
-    command = certificate.split("\n")[1].split(" ")[1]
-    return _READERS[command](_Lines(certificate, Description.of(problem)))
+    text = _bytes_of(certificate).decode("ascii")
+    found = re.match("certificate 1\nanswer ([a-z]+) ", text)
+    if not found or found[1] not in _READERS:
+        raise ValueError("this is no certificate: its second line has to be answer, a command, and more")
+    return _READERS[found[1]](_Lines(text, Description.of(problem)))
 
 
 # --- Commands ----------------------------------------------------------------------------------------------------------------------------
@@ -612,11 +625,15 @@ def cuts(problem: Problem) -> PricedArborescence:
 def batch(jobs: Sequence[tuple], workers: int = 1) -> list[Answer]:
     """The answers of up to 32 jobs, or none where one of them is refused. A job is a tuple of the name of a command but cuts, its problem, and
     for trees and disjoint the count: ("intersect", text), ("trees", text, 2)."""
+    for place, job in enumerate(jobs):
+        if isinstance(job, str) or not 2 <= len(job) <= 3 or not isinstance(job[0], str):
+            raise TypeError(f"job {place} is no tuple of a command, its problem and, for trees and disjoint, the count")
     problems = [Description.of(job[1]) for job in jobs]
     lines = [" ".join(["job", job[0], *map(str, job[2:]), f"f{place}"]) for place, job in enumerate(jobs)]
     files = {f"f{place}": problem.text for place, problem in enumerate(problems)}
     files["list"] = "\n".join(["jobs 1", *lines, "end", ""]).encode()
-    text = _done(call(_words("batch", workers, "list"), files, ROOM * max(1, min(len(jobs), MOST_JOBS))))
+    room = ROOM * max(1, min(len(jobs), MOST_JOBS))
+    text = _done(call(_words("batch", workers, "list"), files, room), *(job[1] for job in jobs))
     certificates = [part + "\nend\n" for part in text.split("\nend\n")[:-1]]
     return [read_answer(problem, certificate) for problem, certificate in zip(problems, certificates)]
 
@@ -718,7 +735,12 @@ def _spelling(weight: Weight | int) -> str:
     """A weight as it is written."""
     if isinstance(weight, Weight):
         return str(weight)
-    number = int(weight)
+    try:
+        number = None if isinstance(weight, (str, bytes)) else int(weight)
+    except (TypeError, ValueError, OverflowError):
+        number = None
+    if number is None:
+        raise TypeError(f"a weight is an int or a Weight, and not {weight!r}")
     if number != weight:
         raise ValueError(f"{weight} is no whole number: measure in a smaller unit")
     return str(number)
@@ -750,10 +772,10 @@ def rooted_description(graph, root: Hashable, cost: str = "weight") -> Descripti
     """The `rooted V E R` of a directed graph, for arborescence, disjoint and cuts. `cost` names the attribute of its arcs, 1 where one has
     none."""
     _hold_to(graph, True)
-    if root not in graph:
+    nodes, names = list(graph.nodes), _vertex_names(graph)
+    if root not in nodes:
         raise ValueError(f"the graph has no node {root!r}, which is to be the root")
     edges, ends, data = _edges(graph)
-    nodes, names = list(graph.nodes), _vertex_names(graph)
     arcs = [f"arc {names[u]} {names[v]} {_spelling(it.get(cost, 1))}" for (u, v), it in zip(ends, data)]
     lines = [" ".join(["vertices", *names]), f"root {names[nodes.index(root)]}", *arcs]
     return _description(f"rooted {len(nodes)} {len(edges)}", lines, edges, nodes)
@@ -761,7 +783,7 @@ def rooted_description(graph, root: Hashable, cost: str = "weight") -> Descripti
 
 def coloured_description(graph, colour: str = "colour", weight: str = "weight") -> Description:
     """The `coloured V E C` of an undirected graph, for rainbow. `colour` and `weight` name the attributes of its edges; a colour may be
-    anything, and an edge without a weight weighs 1."""
+    anything that a dict can have as a key, and an edge without a weight weighs 1."""
     _hold_to(graph, False)
     edges, ends, data = _edges(graph)
     for edge, it in zip(edges, data):
@@ -777,7 +799,7 @@ def table_description(graph, rows: Iterable[Hashable], weight: str = "weight") -
     """The `table R C E` of an undirected graph, for assign: each edge joins one of the nodes `rows` with one of the others, which are the
     columns, and stands in answers as (row, column). `weight` names the attribute of its edges, 1 where one has none."""
     _hold_to(graph, False)
-    row = {node: place for place, node in enumerate(rows)}
+    row = {node: place for place, node in enumerate(dict.fromkeys(rows))}
     column = {node: place for place, node in enumerate(node for node in graph.nodes if node not in row)}
     edges, _, data = _edges(graph)
     cells, pairs = [], []

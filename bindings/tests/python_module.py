@@ -1,5 +1,6 @@
 """Tests of the Python module: what its answers, exceptions and descriptions are. That its bytes are the program's, answers.py tests."""
 import pathlib
+import pickle
 import resource
 import subprocess
 import sys
@@ -138,6 +139,13 @@ class Refusals(unittest.TestCase):
         self.assertEqual((error.note, str(error)), ("refused: description 4 NumberSpelling line 2",) * 2)
         self.assertIsInstance(error, ValueError)
 
+    def test_an_exception_comes_whole_from_another_process(self):
+        with self.assertRaises(matbench.BadDescription) as found:
+            matbench.intersect("matroids 1\npair x\nend\n")
+        error = pickle.loads(pickle.dumps(found.exception))
+        self.assertEqual((type(error), str(error), error.status, error.line),
+                         (matbench.BadDescription, "refused: description 4 NumberSpelling line 2", 3, 2))
+
     def test_a_letter_beyond_ascii_is_refused_by_its_line(self):
         with self.assertRaises(matbench.BadDescription) as found:
             matbench.show(PATH.replace("edge 1", "edgé 1"))
@@ -179,13 +187,15 @@ class Refusals(unittest.TestCase):
                  (matbench.BadWitness, lambda: matbench.verify(people, matbench.intersect(people), 4, "x")),
                  (matbench.BadCost, lambda: matbench.cuts("matroids 1\nrooted 2 1 0\narc 0 1 -1\nend\n")),
                  (matbench.Unwitnessed, lambda: matbench.witness(EXAMPLES / "tasks.txt", matbench.intersect(EXAMPLES / "tasks.txt"), 1)),
-                 (ValueError, lambda: matbench.sample("pair\0", 1, 1)), (FileNotFoundError, lambda: matbench.show(pathlib.Path("nowhere")))]
+                 (ValueError, lambda: matbench.sample("pair\0", 1, 1)), (ValueError, lambda: matbench.call(["show", "f"], {"f\0": b""})),
+                 (ValueError, lambda: matbench.call(["show", "f"], {"f": b""}, room=-1)), (FileNotFoundError, lambda: matbench.show(pathlib.Path("nowhere")))]
         for error, run in cases:
             with self.subTest(error=error), self.assertRaises(error):
                 run()
 
     def test_the_name_of_a_file_is_no_text(self):
-        for run in (lambda: matbench.intersect("people.txt"), lambda: matbench.check(EXAMPLES / "people.txt", "people.answer")):
+        for run in (lambda: matbench.intersect("people.txt"), lambda: matbench.check(EXAMPLES / "people.txt", "people.answer"),
+                    lambda: matbench.batch([("intersect", "people.txt")])):
             with self.assertRaises(matbench.FaultyText) as found:
                 run()
             self.assertIn("pathlib.Path", "".join(traceback.format_exception(found.exception)))
@@ -199,6 +209,24 @@ class Refusals(unittest.TestCase):
                 matbench.intersect(it)
         with self.assertRaisesRegex(TypeError, "not a int"):
             matbench.graph_description(3)
+
+    def test_what_is_no_certificate_and_no_job_is_told(self):
+        for text in ("", "certificate 1\nanswer show 1\nend\n", EXAMPLES / "people.txt"):
+            with self.subTest(text=text), self.assertRaisesRegex(ValueError, "no certificate"):
+                matbench.read_answer(EXAMPLES / "people.txt", text)
+        for job in ("intersect", ("intersect",), (PATH, 1, 2, 3), (1, PATH)):
+            with self.subTest(job=job), self.assertRaisesRegex(TypeError, "job 1 is no tuple"):
+                matbench.batch([("trees", PATH, 1), job])
+
+    def test_a_certificate_may_be_a_file_or_bytes(self):
+        people = EXAMPLES / "people.txt"
+        answer = matbench.intersect(people)
+        self.assertEqual(matbench.read_answer(people, answer.certificate.encode()), answer)
+        self.assertEqual(matbench.read_answer(people, EXAMPLES / "people_wrong.answer").rungs[4].weight, 25)
+
+    def test_a_weight_without_a_tie_is_an_int(self):
+        with self.assertRaisesRegex(ValueError, "an int: 3"):
+            matbench.Weight(3, 0)
 
     def test_a_buffer_that_is_too_small_is_a_write_fault(self):
         ended = matbench.call(["show", "f"], {"f": PATH.encode()}, room=5)
@@ -271,6 +299,7 @@ class Graphs(unittest.TestCase):
         self.assertEqual(answer.best.weight, graph.edge_subgraph(answer.best.members).size(weight="weight"))
         self.assertEqual(answer.best.weight, 8)
         self.assertEqual(sorted(answer.best.members), [("Ada", "door"), ("Ben", "till")])
+        self.assertEqual(matbench.table_description(graph, ["Ada", "Ben", "Ada"]), matbench.table_description(graph, ["Ada", "Ben"]))
         with self.assertRaises(ValueError):
             matbench.table_description(graph, ["Ada", "till"])
 
@@ -319,6 +348,10 @@ class Graphs(unittest.TestCase):
         graph.add_edge(1, 2, weight=0.5)
         with self.assertRaises(ValueError):
             matbench.forests_description(graph)
+        for weight in ("5", None, float("inf"), float("nan")):
+            graph.edges[1, 2]["weight"] = weight
+            with self.subTest(weight=weight), self.assertRaisesRegex(TypeError, "an int or a Weight"):
+                matbench.forests_description(graph)
         with self.assertRaises(TypeError):
             matbench.rooted_description(graph, 1)
         with self.assertRaises(TypeError):
