@@ -410,7 +410,7 @@ class BadUse(Page):
 
     def test_no_memory_is_told(self):
         sample = ["sample", "pair", "500", "1"]
-        ended = self.run_in_page(sample, {"memory": 46_000_000})
+        ended = self.run_in_page(sample, {"memory": 46_000_000, "room": 24_000_000})
         self.assertEqual((ended["status"], ended["note"], ended["output"]), (7, "refused: memory", ""))
         self.assertEqual(self.run_in_page(sample, {"memory": 20_000_000}), "memory")
         self.assertEqual(self.run_in_page(sample, {})["status"], 0)

@@ -21,8 +21,10 @@ const dataOf = (id) => document.getElementById(id).textContent;
 async function loadModule() {
   return Uint8Array.from(atob(dataOf("module").trim()), (it) => it.charCodeAt(0)).buffer;
 }
+let workerAddress;
 function startWorker() {
-  return new Worker(URL.createObjectURL(new Blob([dataOf("worker")], { type: "text/javascript" })));
+  workerAddress ??= URL.createObjectURL(new Blob([dataOf("worker")], { type: "text/javascript" }));
+  return new Worker(workerAddress);
 }
 """
 POLICY = ("default-src 'none'; script-src '{script}' 'wasm-unsafe-eval'; style-src '{style}'; connect-src 'none'; worker-src blob:; "

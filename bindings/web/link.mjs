@@ -1,11 +1,24 @@
 // A problem in the fragment of the page's address, which a browser sends to no server: its command, its number and its text, compressed.
 
+/** Bytes that a description has at most. */
+export const MOST_DESCRIPTION = 4_194_304;
 /** Characters of a fragment that every browser takes. */
 const LONGEST = 1_000_000;
 
-async function through(stream, bytes) {
-  const done = new Blob([bytes]).stream().pipeThrough(stream);
-  return new Uint8Array(await new Response(done).arrayBuffer());
+/** What a stream makes of these bytes. Fails where that is more than `most` bytes. */
+async function through(stream, bytes, most = Infinity) {
+  const reader = new Blob([bytes]).stream().pipeThrough(stream).getReader();
+  const pieces = [];
+  let length = 0;
+  for (let piece = await reader.read(); !piece.done; piece = await reader.read()) {
+    length += piece.value.length;
+    if (length > most) {
+      await reader.cancel();
+      throw new RangeError("the text is too long");
+    }
+    pieces.push(piece.value);
+  }
+  return new Uint8Array(await new Blob(pieces).arrayBuffer());
 }
 
 function toWord(bytes) {
@@ -27,10 +40,10 @@ export async function fragmentOf({ command, count, text }) {
 
 /** The problem that a fragment holds, or null where it holds none. */
 export async function problemOf(fragment) {
-  const found = /^#([a-z]+),([0-9]+),([\w-]+)$/.exec(fragment);
+  const found = /^#([a-z]+),([^,]*),([\w-]+)$/.exec(fragment);
   if (!found) return null;
   try {
-    const bytes = await through(new DecompressionStream("deflate-raw"), fromWord(found[3]));
+    const bytes = await through(new DecompressionStream("deflate-raw"), fromWord(found[3]), MOST_DESCRIPTION);
     return { command: found[1], count: found[2], text: new TextDecoder().decode(bytes) };
   } catch {
     return null;

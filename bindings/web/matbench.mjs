@@ -1,7 +1,7 @@
 // Calls of matbench.wasm, the program as a WebAssembly module with 64-bit memory. Each call has an instance of its own.
 
-/** Bytes in which each answer to a description has room. */
-export const ROOM = 24_000_000;
+/** Bytes in which each text about a description has room: a certificate has less than 24,000,000, a picture at most 27,310,000. */
+export const ROOM = 28_000_000;
 
 const NOTE_ROOM = 256;
 

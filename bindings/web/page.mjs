@@ -1,11 +1,10 @@
 // The page: what its elements do.
 import { AnswerParts } from "./answer.mjs";
 import { COMMANDS, EXAMPLES, FAULTS, LIMITS, REASONS } from "./data.mjs";
-import { fragmentOf, problemOf } from "./link.mjs";
+import { fragmentOf, MOST_DESCRIPTION, problemOf } from "./link.mjs";
 import { moduleOfProgram, Run } from "./run.mjs";
 import { TextBox } from "./textbox.mjs";
 
-const MOST_DESCRIPTION = 4_194_304;
 const MOST_CERTIFICATE = 67_108_864;
 
 /** What the exit statuses mean whose notes say no more. */
@@ -204,8 +203,9 @@ async function solve() {
   answered = command;
   const said = `Done in ${timeOf(ended.milliseconds)}.`;
   say(said);
-  if (command === "cuts") parts.name(text, ended.output);
-  else if (!isDescription(ended.output)) await showAnswer(said, { description: text, answer: ended.output });
+  const files = { description: text, answer: ended.output };
+  if (command === "cuts" && isInBoxes(files)) parts.name(text, ended.output);
+  else if (command !== "cuts" && !isDescription(ended.output)) await showAnswer(said, files);
 }
 
 async function check() {

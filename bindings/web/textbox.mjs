@@ -40,8 +40,12 @@ export class TextBox {
   async open(file) {
     if (file.size > this.mostBytes) {
       this.showFault(null, `${file.name} has more than ${this.mostBytes.toLocaleString("en")} bytes.`);
-    } else {
+      return;
+    }
+    try {
       this.text = await file.text();
+    } catch {
+      this.showFault(null, `${file.name} could not be read.`);
     }
   }
 
