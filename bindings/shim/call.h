@@ -25,6 +25,8 @@ typedef struct {
     /* Where the next read of standard input begins. */
     size_t standard_from;
 #ifndef __wasm__
+    /* How the program ended, and where it goes on then. */
+    int status;
     jmp_buf ended;
 #endif
 } matbench_state;
@@ -35,6 +37,10 @@ extern PER_THREAD matbench_state *matbench_current;
 /* Whether a call has all pointers that it needs. */
 int matbench_is_call(const char *const *words, const matbench_file *files, size_t file_count, const matbench_buffer *output,
                      const matbench_buffer *note);
+
+/* Begins a call with these words, files and buffers, to which nothing is written yet. */
+void matbench_begin(matbench_state *call, const char *const *words, const matbench_file *files, size_t file_count, matbench_buffer *output,
+                    matbench_buffer *note);
 
 /* The program's entry. It ends by matbench_system__exit, and so does not return. */
 #ifdef __wasm__

@@ -102,7 +102,7 @@ __attribute__((export_name("allocate"))) void *allocate(size_t size) {
     return malloc(size ? size : 1);
 }
 
-/* The memory does not grow beyond so many bytes, which are 2^32 where the host does not say. */
+/* The memory does not grow by more than FEWEST_PAGES beyond so many bytes, which are 2^32 where the host does not say. */
 __attribute__((export_name("limit_memory"))) void limit_memory(size_t bytes) {
     memory_limit = bytes;
 }

@@ -37,6 +37,18 @@ int matbench_is_call(const char *const *words, const matbench_file *files, size_
     return 1;
 }
 
+void matbench_begin(matbench_state *call, const char *const *words, const matbench_file *files, size_t file_count, matbench_buffer *output,
+                    matbench_buffer *note) {
+    call->words = words;
+    call->files = files;
+    call->file_count = file_count;
+    call->output = output;
+    call->note = note;
+    output->length = 0;
+    if (note) note->length = 0;
+    matbench_current = call;
+}
+
 /* Puts word `place` into the buffer, the program's name being word 0, and answers its length, -1 where there is none, or -2 where it has no
  * room, and then the buffer is full. */
 ssize_t matbench_system_rattle_arg(size_t place, char *buffer, size_t room) {

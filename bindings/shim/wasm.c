@@ -43,11 +43,6 @@ __attribute__((export_name("matbench_call"))) int matbench_call(const char *cons
                                                                 matbench_buffer *output, matbench_buffer *note) {
     if (!matbench_is_call(words, files, file_count, output, note)) return MATBENCH_NO_CALL;
     static matbench_state call;
-    call.words = words;
-    call.files = files;
-    call.file_count = file_count;
-    call.output = output;
-    call.note = note;
-    matbench_current = &call;
+    matbench_begin(&call, words, files, file_count, output, note);
     return matbench_system_main(0, NULL);
 }
