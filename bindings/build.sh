@@ -81,7 +81,7 @@ prove_and_build() {
         tail -n 5 "$work/checked" >&2
         fail "$crate could not be built again"
     fi
-    grep '^logic=' "$work/checked"
+    grep '^logic=proved ' "$work/checked" || fail "$crate is not proved"
     mv "$work/module.bc" "$module"
 }
 
@@ -107,7 +107,8 @@ compare_program() {
 
 # Fails where an object file calls what is not among these names.
 hold_to() {
-    for name in $("$work/llvm-nm" --undefined-only -j "$1"); do
+    names=$("$work/llvm-nm" --undefined-only -j "$1") || fail "$3 cannot be read"
+    for name in $names; do
         case $2 in
             *" $name "*) ;;
             *) fail "$3 calls $name, which $4" ;;
@@ -166,8 +167,10 @@ link_module() {
     set -- -std=c11 -O2 -fwrapv -ffreestanding -nostdinc -isystem "$(cc -print-file-name=include)"
     for name in $system; do [ "$name" = main ] || set -- "$@" "-Dmatbench_system_$name=$name"; done
     for part in $parts; do compile_for_wasm "$@" "$bindings/shim/$part.c" -o "$work/$part.wasm.o"; done
+    set --
+    for part in $parts; do set -- "$@" "$work/$part.wasm.o"; done
     rm -f "$work/libmodule.a"
-    "$work/llvm-ar" crs "$work/libmodule.a" "$object" $(for part in $parts; do echo "$work/$part.wasm.o"; done)
+    "$work/llvm-ar" crs "$work/libmodule.a" "$object" "$@"
     "$kit/bin/rattle-link" --target wasm64-unknown-unknown --toolchain "$kit/toolchain" --stack 16777216 -o "$module" \
         "$work/libmodule.a" 2>"$work/linked" || fail "the module cannot be linked: $(cat "$work/linked")"
 }

@@ -11,6 +11,7 @@ out=$bindings/out
 program=${1:-$top/crates/mat_main/out/mat_main}
 work=$(mktemp -d)
 trap 'rm -rf "$work"' EXIT
+trap 'exit 70' HUP INT TERM
 tried=0 failed=0
 chromium=${CHROMIUM:-chromium}
 firefox=${FIREFOX:-$(command -v firefox || command -v firefox-esr || true)}
