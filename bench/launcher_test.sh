@@ -255,6 +255,18 @@ try_broken_off() {
     tell "no crate is proved twice that was proved" "$(proved | tr ' ' '\n' | grep -c mat_sets)" 1
 }
 
+# Kills the tool of a build once mat_sets is proved.
+try_lost_tool() {
+    make_checkout
+    pause=1.5 start 1 intersect file
+    launcher=$!
+    wait_for "$work/kit/proved" mat_sets
+    kill -s KILL -- "-$(cat "$work"/tmp/matbench-*/leader)"
+    wait "$launcher"
+    tell "the tool is killed: status, answer, and what it says" "$? $(cat "$work/out1") $(grep -c 'could not be built' "$work/err1")" "70  1"
+    tell "left behind" "$(left_behind)" "0 processes, 0 folders"
+}
+
 try_two_at_once() {
     make_checkout
     pause=0.5 start 1 intersect file
@@ -332,6 +344,7 @@ try_shell() {
     try_failure
     try_broken_off TERM 143
     try_broken_off KILL 137
+    try_lost_tool
     try_two_at_once
     try_change
     try_terminal
