@@ -1,28 +1,23 @@
 /* What bad use of the C library gets, and that calls leave nothing behind. Prints what is wrong, and ends with 1 where something is. */
 #define _POSIX_C_SOURCE 200809L
+#include "allocations.h"
 #include "matbench.h"
 
-#include <pthread.h>
 #include <signal.h>
 #include <stdio.h>
 #include <stdlib.h>
 #include <string.h>
 #include <unistd.h>
 
-enum { ROOM = 1 << 20, MOST_DESCRIPTION = 4194304, MOST_CERTIFICATE = 67108864, THREADS = 8, CALLS = 200 };
+enum { ROOM = 1 << 20, MOST_DESCRIPTION = 4194304, MOST_CERTIFICATE = 67108864, CALLS = 200 };
 
-static int tried, wrong;
-static char room[ROOM], note_room[256];
+static const char *const test = "bad_use.c";
+static char room[ROOM], note_room[256], whole[ROOM];
+/* The whole answer to PAIR, as the first test has it. */
+static matbench_buffer full = {whole, ROOM, 0};
 
 static const char PAIR[] = "matroids 1\npair 4\nweights 3 1 4 1\npartition 1\nclass 1 0 2\nuniform 3\nend\n";
 static const char *const INTERSECT[] = {"intersect", "f", NULL};
-
-static void hold(const char *what, int holds) {
-    tried++;
-    if (holds) return;
-    wrong++;
-    printf("bad_use.c: %s\n", what);
-}
 
 static int call_with(const char *const *words, const void *bytes, size_t length, matbench_buffer *output, matbench_buffer *note) {
     matbench_file file = {"f", bytes, length};
@@ -35,7 +30,7 @@ static int has_note(const matbench_buffer *note, const char *text) {
 
 static void try_words_and_files(void) {
     matbench_buffer output = {room, ROOM, 0}, note = {note_room, sizeof note_room, 0};
-    hold("a right call", call_with(INTERSECT, PAIR, strlen(PAIR), &output, &note) == MATBENCH_DONE && output.length > 100 && note.length == 0);
+    hold("a right call", call_with(INTERSECT, PAIR, strlen(PAIR), &full, &note) == MATBENCH_DONE && full.length > 100 && note.length == 0);
     hold("a call without a note", call_with(INTERSECT, PAIR, strlen(PAIR), &output, NULL) == MATBENCH_DONE);
     const char *const other[] = {"intersect", "g", NULL};
     hold("a file that is not there", call_with(other, PAIR, strlen(PAIR), &output, &note) == MATBENCH_READ_FAULT && output.length == 0
@@ -75,9 +70,6 @@ static void try_null_pointers(void) {
 }
 
 static void try_small_buffers(void) {
-    static char whole[ROOM];
-    matbench_buffer full = {whole, ROOM, 0};
-    call_with(INTERSECT, PAIR, strlen(PAIR), &full, NULL);
     int holds = 1;
     for (size_t size = 0; size <= full.length; size++) {
         memset(room, '#', full.length + 1);
@@ -106,83 +98,23 @@ static void try_long_texts(void) {
     free(text);
 }
 
-/* Linked with --wrap: allocations in the order in which they are made, of which one is refused, and what is not freed yet. */
-static long allocations, refused = -1, held;
-
-void *__real_malloc(size_t size);
-void *__real_realloc(void *old, size_t size);
-void __real_free(void *bytes);
-
-void *__wrap_malloc(size_t size) {
-    void *made = __atomic_fetch_add(&allocations, 1, __ATOMIC_RELAXED) == refused ? NULL : __real_malloc(size);
-    if (made) __atomic_fetch_add(&held, 1, __ATOMIC_RELAXED);
-    return made;
+static outcome answer(void) {
+    matbench_buffer output = {room, ROOM, 0}, note = {note_room, sizeof note_room, 0};
+    int status = call_with(INTERSECT, PAIR, strlen(PAIR), &output, &note);
+    if (status == MATBENCH_MEMORY && output.length == 0 && has_note(&note, "refused: memory\n")) return REFUSED;
+    int is_whole = status == MATBENCH_DONE && output.length == full.length && !memcmp(room, whole, full.length);
+    return is_whole ? WHOLE : OTHERWISE;
 }
 
-void *__wrap_realloc(void *old, size_t size) {
-    if (!old) return __wrap_malloc(size);
-    return __atomic_fetch_add(&allocations, 1, __ATOMIC_RELAXED) == refused ? NULL : __real_realloc(old, size);
-}
-
-void __wrap_free(void *bytes) {
-    if (bytes) __atomic_fetch_sub(&held, 1, __ATOMIC_RELAXED);
-    __real_free(bytes);
-}
-
-/* Refuses each allocation of a call in turn: the call ends with want of memory and has no output, or has the answer as ever, and holds nothing. */
-static void try_little_memory(void) {
-    static char whole[ROOM];
-    matbench_buffer full = {whole, ROOM, 0};
-    call_with(INTERSECT, PAIR, strlen(PAIR), &full, NULL);
-    long begun = allocations, before = held, refusals = 0;
-    call_with(INTERSECT, PAIR, strlen(PAIR), &full, NULL);
-    long count = allocations - begun;
-    int holds = count > 20;
-    for (long i = 0; i < count; i++) {
-        matbench_buffer output = {room, ROOM, 0}, note = {note_room, sizeof note_room, 0};
-        refused = allocations + i;
-        int status = call_with(INTERSECT, PAIR, strlen(PAIR), &output, &note);
-        refusals += status == MATBENCH_MEMORY && output.length == 0 && has_note(&note, "refused: memory\n");
-        int is_whole = status == MATBENCH_DONE && output.length == full.length && !memcmp(room, whole, full.length);
-        holds &= held == before && (status == MATBENCH_MEMORY || is_whole);
-    }
-    refused = -1;
-    hold("no memory", holds && refusals > count / 2);
-}
-
-typedef struct {
-    int number, holds;
-    char wanted[256];
-} worker;
-
-static int sample(int number, char *bytes) {
+static int sample(int number, char *text) {
     char size[16], seed[16];
     snprintf(size, sizeof size, "%d", 20 + 7 * number);
     snprintf(seed, sizeof seed, "%d", number + 1);
     const char *const words[] = {"sample", "--workers", number % 2 ? "2" : "1", "pair", size, seed, NULL};
-    matbench_buffer output = {bytes, 255, 0};
+    matbench_buffer output = {text, MOST_SAMPLE - 1, 0};
     int status = matbench_call(words, NULL, 0, &output, NULL);
-    bytes[output.length] = 0;
-    return status;
-}
-
-static void *work(void *given) {
-    worker *it = given;
-    char line[256];
-    for (int i = 0; i < CALLS / 4; i++) it->holds &= sample(it->number, line) == MATBENCH_DONE && !strcmp(line, it->wanted);
-    return NULL;
-}
-
-static void try_threads(void) {
-    pthread_t threads[THREADS];
-    worker workers[THREADS];
-    for (int i = 0; i < THREADS; i++) {
-        workers[i] = (worker){.number = i, .holds = 1};
-        sample(i, workers[i].wanted);
-    }
-    for (int i = 0; i < THREADS; i++) pthread_create(&threads[i], NULL, work, &workers[i]);
-    for (int i = 0; i < THREADS; i++) pthread_join(threads[i], NULL);
-    for (int i = 0; i < THREADS; i++) hold("calls at once in several threads", workers[i].holds);
+    text[output.length] = 0;
+    return status == MATBENCH_DONE;
 }
 
 static void try_what_is_left(void) {
@@ -213,6 +145,5 @@ int main(void) {
     try_little_memory();
     try_what_is_left();
     try_threads();
-    printf("bad_use.c: %d tried, %d wrong\n", tried, wrong);
-    return wrong != 0;
+    return end();
 }

@@ -1,25 +1,20 @@
 /* What bad use of the static library gets, and that calls leave nothing behind. Prints what is wrong, and ends with 1 where something is. */
+#include "allocations.h"
 #include "matbench_line.h"
 
-#include <pthread.h>
 #include <stdio.h>
 #include <stdlib.h>
 #include <string.h>
 
-enum { ROOM = 1 << 20, MOST_DESCRIPTION = 4194304, MOST_CERTIFICATE = 67108864, THREADS = 8, CALLS = 50 };
+enum { ROOM = 1 << 20, MOST_DESCRIPTION = 4194304, MOST_CERTIFICATE = 67108864 };
 enum { DONE, NOT_RIGHT, USAGE, BAD_DESCRIPTION, BAD_CERTIFICATE, READ_FAULT, WRITE_FAULT, MEMORY, TOO_LONG };
 
-static int tried, wrong;
-static char room[ROOM], note_room[256];
+static const char *const test = "line_use.c";
+static char room[ROOM], note_room[256], whole[ROOM];
+/* How the first call ended, whose output is kept: the whole answer to PAIR. */
+static matbench_ended full;
 
 static const char PAIR[] = "matroids 1\npair 4\nweights 3 1 4 1\npartition 1\nclass 1 0 2\nuniform 3\nend\n";
-
-static void hold(const char *what, int holds) {
-    tried++;
-    if (holds) return;
-    wrong++;
-    printf("line_use.c: %s\n", what);
-}
 
 /* A call over a description and a certificate, with so much room for its output. */
 static matbench_ended call(const char *line, const void *description, size_t length, const void *certificate, size_t certificate_length,
@@ -37,8 +32,9 @@ static int is_refused(matbench_ended ended, int status, const char *note) {
 }
 
 static void try_lines(void) {
-    matbench_ended ended = intersect(ROOM);
-    hold("a right call", ended.status == DONE && ended.output_length > 100 && ended.note_length == 0);
+    full = intersect(ROOM);
+    memcpy(whole, room, full.output_length);
+    hold("a right call", full.status == DONE && full.output_length > 100 && full.note_length == 0);
     static const char *const none[] = {"", " ", "intersect", "intersect  f", " intersect f", "intersect f ", "intersect\tf", "intersect f\n",
                                        "intersect f c", "--tell f c", "--help", "x f"};
     for (size_t i = 0; i < sizeof none / sizeof none[0]; i++)
@@ -54,9 +50,6 @@ static void try_lines(void) {
 }
 
 static void try_small_buffers(void) {
-    static char whole[ROOM];
-    matbench_ended full = intersect(ROOM);
-    memcpy(whole, room, full.output_length);
     int holds = 1;
     for (size_t size = 0; size <= full.output_length; size++) {
         memset(room, '#', full.output_length + 1);
@@ -87,80 +80,19 @@ static void try_long_texts(void) {
     free(text);
 }
 
-/* Linked with --wrap: allocations in the order in which they are made, of which one is refused, and what is not freed yet. */
-static long allocations, refused = -1, held;
-
-void *__real_malloc(size_t size);
-void *__real_realloc(void *old, size_t size);
-void __real_free(void *bytes);
-
-void *__wrap_malloc(size_t size) {
-    void *made = __atomic_fetch_add(&allocations, 1, __ATOMIC_RELAXED) == refused ? NULL : __real_malloc(size);
-    if (made) __atomic_fetch_add(&held, 1, __ATOMIC_RELAXED);
-    return made;
+static outcome answer(void) {
+    matbench_ended ended = intersect(ROOM);
+    if (ended.status == MEMORY && ended.output_length == 0) return REFUSED;
+    int is_whole = ended.status == DONE && ended.output_length == full.output_length && !memcmp(room, whole, full.output_length);
+    return is_whole ? WHOLE : OTHERWISE;
 }
 
-void *__wrap_realloc(void *old, size_t size) {
-    if (!old) return __wrap_malloc(size);
-    return __atomic_fetch_add(&allocations, 1, __ATOMIC_RELAXED) == refused ? NULL : __real_realloc(old, size);
-}
-
-void __wrap_free(void *bytes) {
-    if (bytes) __atomic_fetch_sub(&held, 1, __ATOMIC_RELAXED);
-    __real_free(bytes);
-}
-
-/* Refuses each allocation of a call in turn: the call ends with want of memory and has no output, or has the answer as ever, and holds nothing. */
-static void try_little_memory(void) {
-    static char whole[ROOM];
-    matbench_ended full = intersect(ROOM);
-    memcpy(whole, room, full.output_length);
-    long begun = allocations, before = held, refusals = 0;
-    intersect(ROOM);
-    long count = allocations - begun;
-    int holds = count > 20 && held == before;
-    for (long i = 0; i < count; i++) {
-        refused = allocations + i;
-        matbench_ended ended = intersect(ROOM);
-        int is_refusal = ended.status == MEMORY && ended.output_length == 0;
-        int is_whole = ended.status == DONE && ended.output_length == full.output_length && !memcmp(room, whole, full.output_length);
-        refusals += is_refusal;
-        holds &= held == before && (is_refusal || is_whole);
-    }
-    refused = -1;
-    hold("no memory", holds && refusals > count / 2);
-}
-
-typedef struct {
-    int number, holds;
-    char wanted[256];
-} worker;
-
-static int sample(int number, char *bytes) {
+static int sample(int number, char *text) {
     char line[64];
     snprintf(line, sizeof line, "sample --workers %d pair %d %d", 1 + number % 2, 20 + 7 * number, number + 1);
-    matbench_ended ended = matbench_line(line, strlen(line), NULL, 0, NULL, 0, NULL, 0, bytes, 255, NULL, 0);
-    bytes[ended.output_length] = 0;
-    return ended.status;
-}
-
-static void *work(void *given) {
-    worker *it = given;
-    char line[256];
-    for (int i = 0; i < CALLS; i++) it->holds &= sample(it->number, line) == DONE && !strcmp(line, it->wanted);
-    return NULL;
-}
-
-static void try_threads(void) {
-    pthread_t threads[THREADS];
-    worker workers[THREADS];
-    for (int i = 0; i < THREADS; i++) {
-        workers[i] = (worker){.number = i, .holds = 1};
-        sample(i, workers[i].wanted);
-    }
-    for (int i = 0; i < THREADS; i++) pthread_create(&threads[i], NULL, work, &workers[i]);
-    for (int i = 0; i < THREADS; i++) pthread_join(threads[i], NULL);
-    for (int i = 0; i < THREADS; i++) hold("calls at once in several threads", workers[i].holds);
+    matbench_ended ended = matbench_line(line, strlen(line), NULL, 0, NULL, 0, NULL, 0, text, MOST_SAMPLE - 1, NULL, 0);
+    text[ended.output_length] = 0;
+    return ended.status == DONE;
 }
 
 int main(void) {
@@ -169,6 +101,5 @@ int main(void) {
     try_long_texts();
     try_little_memory();
     try_threads();
-    printf("line_use.c: %d tried, %d wrong\n", tried, wrong);
-    return wrong != 0;
+    return end();
 }
