@@ -1,26 +1,12 @@
 /* Makes a call as a user of the C library does: call WORD .. -- NAME=PATH .., and prints what the program would print. */
 #include "matbench.h"
+#include "read_whole.h"
 
 #include <stdio.h>
 #include <stdlib.h>
 #include <string.h>
 
 enum { MOST_FILES = 40 };
-
-static const char *read_whole(const char *path, size_t *length) {
-    FILE *file = fopen(path, "rb");
-    if (!file || fseek(file, 0, SEEK_END)) {
-        perror(path);
-        exit(70);
-    }
-    size_t size = (size_t)ftell(file);
-    rewind(file);
-    char *bytes = malloc(size + 1);
-    if (!bytes) exit(70);
-    *length = fread(bytes, 1, size, file);
-    fclose(file);
-    return bytes;
-}
 
 int main(int argc, char **argv) {
     int end = 1;
@@ -31,9 +17,8 @@ int main(int argc, char **argv) {
         char *equals = strchr(argv[i], '=');
         if (!equals) return 70;
         *equals = 0;
-        files[count].name = argv[i];
-        files[count].bytes = read_whole(equals + 1, &files[count].length);
-        count++;
+        text whole = read_whole(equals + 1);
+        files[count++] = (matbench_file){argv[i], whole.bytes, whole.length};
     }
     argv[end] = NULL;
     char note_bytes[256];

@@ -1,31 +1,12 @@
 /* Makes a call as a user of the static library does: line [--room N] LINE [f=PATH] [c=PATH] [w=PATH], and prints what the program would print. */
 #include "matbench_line.h"
+#include "read_whole.h"
 
 #include <stdio.h>
 #include <stdlib.h>
 #include <string.h>
 
 enum { MOST_OUTPUT = 67108864 };
-
-typedef struct {
-    char *bytes;
-    size_t length;
-} text;
-
-static text read_whole(const char *path) {
-    FILE *file = fopen(path, "rb");
-    if (!file || fseek(file, 0, SEEK_END)) {
-        perror(path);
-        exit(70);
-    }
-    size_t size = (size_t)ftell(file);
-    rewind(file);
-    text it = {malloc(size + 1), 0};
-    if (!it.bytes) exit(70);
-    it.length = fread(it.bytes, 1, size, file);
-    fclose(file);
-    return it;
-}
 
 int main(int argc, char **argv) {
     size_t room = MOST_OUTPUT;
