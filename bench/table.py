@@ -1,11 +1,12 @@
 #!/usr/bin/env python3
 """Makes the tables of all commands at 500 elements: `table.py [N] [PROGRAM [OTHER]]`, at the top of the repository.
 
-For each case of `cases.py` and each command that takes it the table has the seconds on the clock (the best of three runs) and the peak memory
-with 1 and with 4 workers, and those of `check` on the answer; then, for the rung in the middle of each answer about matroids that have witnesses,
-those of `witness` and `verify`, with the bytes of the text; for a second program, such as that of another commit, the same beside it. The
-answers for 1 and for 4 workers have to be the same bytes, and `check` has to say yes. The memory is what GNU `time` (/usr/bin/time) tells. The program is crates/mat_main/out/mat_main where none is
-named. Run it ahead of other work (`chrt -r 50 python3 bench/table.py`), or the figures say little.
+For each case below, which `cases.py` prints, and its command the table has the seconds on the clock (the best of three runs) and the peak memory
+with 1 and with 4 workers, and those of `check` on the answer; then those of samples, and, for the rung in the middle of each answer about matroids
+that have witnesses, those of `witness` and `verify`, with the bytes of the text; for a second program, such as that of another commit, the same
+beside it. It ends with 1 where a program writes other bytes with 4 workers than with 1, or where `check` or `verify` does not say yes. The memory
+is what GNU `time` (/usr/bin/time) tells. The program is crates/mat_main/out/mat_main where none is named. Run it ahead of other work
+(`chrt -r 50 python3 bench/table.py`), or the figures say little.
 """
 import os
 import subprocess
@@ -20,22 +21,57 @@ CASES = ([(name, ['intersect']) for name in PAIRS]
             ('rooted', ['disjoint', '4']), ('payable', ['cuts']), ('coloured', ['rainbow']), ('table', ['assign'])])
 WITNESSED = ['free', 'partitions', 'graphic', 'gf2', 'laminar', 'graphs', 'gammoid']
 SAMPLES = ['pair', 'list', 'graph', 'rooted', 'table']
+WORKERS = [[], ['--workers', '4']]
 RUNS = 3
+
+
+def once(program, words, folder=None):
+    """How a run in a folder ends, its output, its seconds, and its peak memory in MB, which GNU `time` tells."""
+    with tempfile.NamedTemporaryFile('r') as told:
+        begin = time.perf_counter()
+        run = subprocess.run(['/usr/bin/time', '-f', '%M', '-o', told.name, program] + words, cwd=folder, capture_output=True)
+        took = time.perf_counter() - begin
+        return run.returncode, run.stdout, took, int(told.read().split()[-1]) / 1024
 
 
 def measured(program, words):
     """The output of a run, its seconds and its peak memory in MB: the least of each of some runs."""
     seconds, memory, out = [], [], b''
     for _ in range(RUNS):
-        with tempfile.NamedTemporaryFile('r') as told:
-            begin = time.perf_counter()
-            run = subprocess.run(['/usr/bin/time', '-f', '%M', '-o', told.name, program] + words, capture_output=True)
-            seconds.append(time.perf_counter() - begin)
-            if run.returncode != 0:
-                raise SystemExit(f'{program} {" ".join(words)} ends with {run.returncode}')
-            memory.append(int(told.read().split()[-1]) / 1024)
-            out = run.stdout
+        status, out, took, peak = once(program, words)
+        if status != 0:
+            raise SystemExit(f'{program} {" ".join(words)} ends with {status}')
+        seconds.append(took)
+        memory.append(peak)
     return out, min(seconds), min(memory)
+
+
+def with_cell(program, words):
+    """The output of a run, and the cell of its seconds and its memory."""
+    out, seconds, memory = measured(program, words)
+    return out, f'{seconds:.3f} ({memory:.0f})'
+
+
+def by_workers(program, words):
+    """The output of a call, which is the same bytes with 1 and with 4 workers, and the cell of each."""
+    (out, one), (other, four) = (with_cell(program, words[:1] + option + words[1:]) for option in WORKERS)
+    if other != out:
+        raise SystemExit(f'{program} {" ".join(words)}: other bytes for 4 workers')
+    return out, [one, four]
+
+
+def hold_to_yes(program, words, verdict):
+    """Ends where a call that judges does not say yes."""
+    if verdict != b'yes\n':
+        raise SystemExit(f'{program} {" ".join(words)} says {verdict!r}')
+
+
+def saved(folder, name, text):
+    """A file of these bytes."""
+    path = os.path.join(folder, name)
+    with open(path, 'wb') as to:
+        to.write(text)
+    return path
 
 
 def described(name, count, folder):
@@ -49,38 +85,25 @@ def described(name, count, folder):
 
 def figures(program, command, path, folder):
     """Seconds and memory with 1 and with 4 workers, of the command and of `check` where it judges the answers of the command."""
-    cells, answers = [], []
-    option = [[]] if command[0] == 'cuts' else [[], ['--workers', '4']]
-    for words in option:
-        out, seconds, memory = measured(program, command[:1] + words + command[1:] + [path])
-        answers.append(out)
-        cells.append(f'{seconds:.3f} ({memory:.0f})')
-    if answers[0] != answers[-1]:
-        raise SystemExit(f'{command} {path}: other bytes for 4 workers')
     if command[0] == 'cuts':
-        return cells + [''] * 3
-    answer = os.path.join(folder, 'answer')
-    with open(answer, 'wb') as to:
-        to.write(answers[0])
-    for words in option:
-        out, seconds, memory = measured(program, ['check'] + words + [path, answer])
-        cells.append(f'{seconds:.3f} ({memory:.0f})')
-    return cells
+        return [with_cell(program, command + [path])[1]] + [''] * 3
+    answer, cells = by_workers(program, command + [path])
+    check = ['check', path, saved(folder, 'answer', answer)]
+    verdict, more = by_workers(program, check)
+    hold_to_yes(program, check, verdict)
+    return cells + more
 
 
 def witnessed(program, path, folder):
     """A rung in the middle of the answer, seconds and memory of `witness` and of `verify` on it, and the length of its text."""
-    answer, witness = os.path.join(folder, 'answer'), os.path.join(folder, 'witness')
-    with open(answer, 'wb') as to:
-        to.write(measured(program, ['intersect', path])[0])
-    with open(answer, 'rb') as certificate:
-        rung = str(int(certificate.read(100).split()[5]) // 2)
-    out, seconds, memory = measured(program, ['witness', rung, path, answer])
-    with open(witness, 'wb') as to:
-        to.write(out)
-    cells = [rung, f'{seconds:.3f} ({memory:.0f})']
-    out, seconds, memory = measured(program, ['verify', rung, path, answer, witness])
-    return cells + [f'{seconds:.3f} ({memory:.0f})', f'{os.path.getsize(witness):,}']
+    answer = measured(program, ['intersect', path])[0]
+    rung = str(int(answer.split(maxsplit=6)[5]) // 2)
+    words = [rung, path, saved(folder, 'answer', answer)]
+    witness, made = with_cell(program, ['witness'] + words)
+    verify = ['verify'] + words + [saved(folder, 'witness', witness)]
+    verdict, judged = with_cell(program, verify)
+    hold_to_yes(program, verify, verdict)
+    return [rung, made, judged, f'{len(witness):,}']
 
 
 def main():
@@ -109,14 +132,9 @@ def main():
 def samples(programs, count):
     """The rows of `sample`."""
     for kind in SAMPLES:
-        words = [kind, str(count), '7']
-        cells = []
-        for program in programs:
-            for option in ([], ['--workers', '4']):
-                out, seconds, memory = measured(program, ['sample'] + option + words)
-                cells.append(f'{seconds:.3f} ({memory:.0f})')
-            cells += ['', '']
-        print(f'| | `sample {" ".join(words)}` |', ' | '.join(cells), '|', flush=True)
+        words = ['sample', kind, str(count), '7']
+        cells = [cell for program in programs for cell in by_workers(program, words)[1] + [''] * 2]
+        print(f'| | `{" ".join(words)}` |', ' | '.join(cells), '|', flush=True)
 
 
 if __name__ == '__main__':
