@@ -8,13 +8,11 @@ bytes of the answer. There is no fit through fewer than four sizes, or where it 
 work (`chrt -r 50 python3 bench/growth.py`), or the figures say little. The program is crates/mat_main/out/mat_main where none is named.
 """
 import math
-import os
-import subprocess
 import sys
 import tempfile
-import time
 
-from table import CASES, SAMPLES, described
+from compare import run
+from table import CASES, SAMPLES, described, saved
 
 SIZES = (60, 90, 130, 200, 300, 400, 500)
 RUNS = 15
@@ -24,15 +22,8 @@ FEWEST = 4
 
 def timed(program, words, runs=RUNS):
     """The output and the least seconds of some runs."""
-    least, out = math.inf, b''
-    for _ in range(runs):
-        begin = time.perf_counter()
-        run = subprocess.run([program] + words, capture_output=True)
-        least = min(least, time.perf_counter() - begin)
-        if run.returncode != 0:
-            raise SystemExit(f'{program} {" ".join(words)} ends with {run.returncode}')
-        out = run.stdout
-    return out, least
+    outputs, seconds = zip(*(run(program, words) for _ in range(runs)))
+    return outputs[-1], min(seconds)
 
 
 def exponent(values, least):
@@ -67,14 +58,12 @@ def row(program, start, name, command):
             if not name:
                 seconds.append(timed(program, [*command, str(size), '7'])[1] - start)
                 continue
-            path, answer = described(name, size, folder), os.path.join(folder, 'answer')
+            path = described(name, size, folder)
             out, took = timed(program, [*command, path])
             seconds.append(took - start)
             bytes_of.append(len(out))
-            with open(answer, 'wb') as to:
-                to.write(out)
             if command[0] != 'cuts':
-                judged.append(timed(program, ['check', path, answer])[1] - start)
+                judged.append(timed(program, ['check', path, saved(folder, 'answer', out)])[1] - start)
     return (cells(seconds, (60, 200, 500), LEAST, 0.001, 1) + (cells(judged, (500,), LEAST, 0.001, 1) if judged else [''] * 3)
             + (cells(bytes_of, (500,), 1, 1e3, 1e6) if bytes_of else [''] * 3))
 

@@ -12,7 +12,7 @@ import sys
 import tempfile
 from xml.parsers import expat
 
-from table import CASES, described, measured
+from table import CASES, described, measured, saved
 
 
 def with_long_names(program, path, folder):
@@ -59,9 +59,7 @@ def main():
             if command[0] == 'cuts':
                 continue
             path = with_long_names(program, described(name, n, folder), folder)
-            answer = os.path.join(folder, 'answer')
-            with open(answer, 'wb') as to:
-                to.write(measured(program, command + [path])[0])
+            answer = saved(folder, 'answer', measured(program, command + [path])[0])
             runs = [measured(program, words + [path, answer]) for words in (['check'], ['--tell'], ['--picture'])]
             cells = [f'{seconds:.2f} ({memory:.0f})' for _, seconds, memory in runs]
             told, drawn = runs[1][0], runs[2][0]

@@ -6,17 +6,14 @@ Prints for each a line of a table: the command, how it ended, the seconds on the
 """
 import os
 import random
-import subprocess
 import sys
 import tempfile
-import time
+
+from soak import line
+from table import once, saved
 
 N = 500
 DESCRIPTION_LIMIT, CERTIFICATE_LIMIT = 4194304, 67108864
-
-
-def line(*words):
-    return ' '.join(str(word) for word in words)
 
 
 def weights(numbers, n=N):
@@ -116,36 +113,22 @@ def refused():
         yield f'a certificate of 64 MB: {name}', 'check f c', free, text
 
 
-def run(program, folder, words):
-    """How a run ended, its seconds, its peak memory in MB (which GNU `time` tells) and its output."""
-    with tempfile.NamedTemporaryFile('r') as told:
-        begin = time.perf_counter()
-        run = subprocess.run(['/usr/bin/time', '-f', '%M', '-o', told.name, program] + words.split(), cwd=folder, capture_output=True)
-        took = time.perf_counter() - begin
-        return run.returncode, took, int(told.read().split()[-1]) / 1024, run.stdout
-
-
-def write(folder, name, text):
-    with open(os.path.join(folder, name), 'wb') as to:
-        to.write(text)
-
-
 def main():
     program = os.path.abspath(sys.argv[1] if len(sys.argv) > 1 else 'crates/mat_main/out/mat_main')
     print('| input | command | status | seconds | MB |\n|---|---|---|---|---|')
     with tempfile.TemporaryDirectory() as folder:
         for name, command, text in solved():
-            write(folder, 'f', text)
-            status, seconds, memory, answer = run(program, folder, command + ' f')
+            saved(folder, 'f', text)
+            status, answer, seconds, memory = once(program, [command, 'f'], folder)
             print(f'| {name} | `{command}` | {status} | {seconds:.2f} | {memory:.0f} |', flush=True)
-            write(folder, 'c', answer)
+            saved(folder, 'c', answer)
             for judging in ('check', '--tell', '--picture'):
-                status, seconds, memory, _ = run(program, folder, judging + ' f c')
+                status, _, seconds, memory = once(program, [judging, 'f', 'c'], folder)
                 print(f'| | `{judging}` | {status} | {seconds:.2f} | {memory:.0f} |', flush=True)
         for name, words, text, certificate in refused():
-            write(folder, 'f', text)
-            write(folder, 'c', certificate)
-            status, seconds, memory, _ = run(program, folder, words)
+            saved(folder, 'f', text)
+            saved(folder, 'c', certificate)
+            status, _, seconds, memory = once(program, words.split(), folder)
             print(f'| {name} | `{words.split()[0]}` | {status} | {seconds:.2f} | {memory:.0f} |', flush=True)
 
 
