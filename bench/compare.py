@@ -13,7 +13,7 @@ import sys
 import tempfile
 import time
 
-from table import CASES, described
+from table import CASES, described, saved
 
 RUNS = 7
 
@@ -50,25 +50,31 @@ def row(programs, calls):
     return ' | '.join(cells + [f'{min(seconds[1]) / min(seconds[0]):.2f}'])
 
 
-def main():
+def arguments():
+    """The two programs, the number of elements, and the names of the cases, none where all are meant."""
     programs, rest = [os.path.abspath(program) for program in sys.argv[1:3]], sys.argv[3:]
-    count = int(rest.pop(0)) if rest else 500
+    if len(programs) < 2 or rest and not rest[0].isdigit():
+        raise SystemExit(__doc__)
+    for name in rest[1:]:
+        if name not in dict(CASES):
+            raise SystemExit(f'there is no case {name}')
+    return programs, int(rest[0]) if rest else 500, rest[1:]
+
+
+def main():
+    programs, count, chosen = arguments()
     print('| case | command | instructions before | after | ratio | seconds before | after | ratio |\n|---|---|---|---|---|---|---|---|')
     with tempfile.TemporaryDirectory() as folder:
         for name, command in CASES:
-            if rest and name not in rest:
+            if chosen and name not in chosen:
                 continue
             path = described(name, count, folder)
             solve = command + [path]
             print(f'| `{name}` | `{" ".join(command)}` | {row(programs, [solve, solve])} |', flush=True)
             if command == ['cuts']:
                 continue
-            checks = []
-            for place, program in enumerate(programs):
-                answer = os.path.join(folder, f'answer_{place}')
-                with open(answer, 'wb') as to:
-                    to.write(run(program, solve)[0])
-                checks.append(['check', path, answer])
+            answers = [saved(folder, f'answer_{place}', run(program, solve)[0]) for place, program in enumerate(programs)]
+            checks = [['check', path, answer] for answer in answers]
             print(f'| | `check` | {row(programs, checks)} |', flush=True)
 
 
