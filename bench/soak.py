@@ -3,14 +3,16 @@
 
 Problems of every form, with matroids of every kind within one another, are solved by every command that takes them, with one and with four
 workers; `check` has to say yes to each answer, and both answers have to be the same bytes. Commands for other forms have to end with
-the status of a wrong shape. Where both matroids are of kinds that have witnesses, `verify` has to say yes to the witness of each rung. Then bytes, words and lines of the texts are changed, and `show`, `check` and `verify` have to end with a status and a note
-that they can have. It ends with 1 and keeps the files at the first run that ends otherwise or takes more than ten seconds, and else
+the status of a wrong shape. Where both matroids are of kinds that have witnesses, `verify` has to say yes to the witness of each rung. Then bytes,
+words and lines of the texts are changed, and `show`, `check` and `verify` have to end with a status and a note that they can have. It ends with 1
+and keeps the files at the first run that ends otherwise or takes more than ten seconds; one that has not ended after sixty is killed. Else it
 prints how many runs of each command ended with each status. The program is crates/mat_main/out/mat_main where none is named.
 """
 import collections
 import os
 import random
 import re
+import shutil
 import subprocess
 import sys
 import tempfile
@@ -24,7 +26,7 @@ NOTES = {0: '', 1: f'no {WORD} [0-9]+ [0-9]+\n', 2: 'refused: usage\n', 3: f'ref
          4: f'refused: certificate [0-9]+ {WORD} line [0-9]+\n', 9: 'refused: wrong shape\n', 11: 'refused: unwitnessed\n',
          12: f'refused: witness [0-9]+ {WORD} line [0-9]+\n', 13: 'refused: bad cost\n',
          14: 'refused: list line [0-9]+\n'}
-SECONDS = 10
+SECONDS, LONGEST = 10, 60
 
 
 def weight(numbers):
@@ -163,19 +165,25 @@ class Soak:
     def run(self, words, statuses):
         """The output of a run that has to end with one of these statuses."""
         begin = time.monotonic()
-        run = subprocess.run([self.program] + words.split(), cwd=self.folder, capture_output=True, timeout=60)
+        try:
+            run = subprocess.run([self.program] + words.split(), cwd=self.folder, capture_output=True, timeout=LONGEST)
+        except subprocess.TimeoutExpired:
+            self.fail(f'{words}: not ended after {LONGEST} s')
         took = time.monotonic() - begin
         note = run.stderr.decode('latin1')
         self.ends[words.split()[0], run.returncode] += 1
         if run.returncode not in statuses or not re.fullmatch(NOTES.get(run.returncode, ''), note) or (run.returncode and run.stdout) or took > SECONDS:
-            print(f'{words}: status {run.returncode}, note {note!r}, {took:.1f} s; the files are in {self.folder}')
-            raise SystemExit(1)
+            self.fail(f'{words}: status {run.returncode}, note {note!r}, {took:.1f} s')
         return run.stdout
+
+    def fail(self, what):
+        """Ends with 1, and says of what and where the files are."""
+        print(f'{what}; the files are in {self.folder}')
+        raise SystemExit(1)
 
     def expect(self, what, holds):
         if not holds:
-            print(f'{what}; the files are in {self.folder}')
-            raise SystemExit(1)
+            self.fail(what)
 
     def solve(self, command):
         """An answer, which has to be right and the same for four workers."""
@@ -234,6 +242,7 @@ def main():
     soak = Soak(program, tempfile.mkdtemp())
     while time.monotonic() < end:
         soak.problem(numbers)
+    shutil.rmtree(soak.folder)
     for (command, status), count in sorted(soak.ends.items()):
         print(f'{command}: status {status}: {count}')
 
