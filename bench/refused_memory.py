@@ -1,11 +1,11 @@
 #!/usr/bin/env python3
 """Refuses each allocation in turn: `refused_memory.py [PROGRAM]`, at the top of the repository; a C compiler `cc` has to be there.
 
-For a case of each command the program is run with its first allocation refused, then with its second, and so on for as many as it makes.
-Each run has to end with the status 7, with the note of want of memory and nothing on standard output; or as if none were refused, where that
-allocation is not needed (room that is given back, or a thread in whose place its starter works). Prints for each case how many allocations
-there are and how many of them are not needed, and ends with 1 at the first run that ends otherwise. The program is
-crates/mat_main/out/mat_main where none is named.
+For a case of each command the program is run with nothing refused, which has to end with the status 0, and then with its first allocation
+refused, with its second, and so on for as many as it makes. Each of these has to end with the status 7, with the note of want of memory and
+nothing on standard output; or as if none were refused, where that allocation is not needed (room that is given back, or a thread in whose place
+its starter works). Prints for each case how many allocations there are and how many of them are not needed, and ends with 1 at the first run that
+ends otherwise. The program is crates/mat_main/out/mat_main where none is named.
 """
 import os
 import subprocess
@@ -100,6 +100,8 @@ def ended(program, library, folder, words, number):
 def allocations(program, library, folder, words):
     """How many allocations a case makes, and how many of them are not needed: each is refused in turn."""
     whole, _ = ended(program, library, folder, words, 0)
+    if whole[0] != 0:
+        raise SystemExit(f'{" ".join(words)}: with nothing refused: {whole}')
     number = needless = 0
     while True:
         number += 1
