@@ -63,6 +63,10 @@ class Browser:
         """A picture of the whole page in PNG, in Base64."""
         raise NotImplementedError
 
+    def _complaints(self):
+        """The complaints among the events that were kept."""
+        raise NotImplementedError
+
     def _start(self, words, **more):
         """Starts the browser, which ends with the test at the latest."""
         self.process = subprocess.Popen(words, stdin=subprocess.DEVNULL, stdout=subprocess.DEVNULL, stderr=subprocess.DEVNULL, **more)
@@ -105,6 +109,11 @@ class Browser:
         self.run(f"document.querySelector({json.dumps(selector)}).scrollIntoView({{ block: 'nearest' }})")
         place = f"document.querySelector({json.dumps(selector)}).getBoundingClientRect()"
         return self.run(f"(({{x, y, width, height}}) => [x + width / 2, y + height / 2])({place})")
+
+    def complaints(self):
+        """What the browser's console has of the page up to now: errors, warnings and what was not allowed."""
+        self.run("null")
+        return self._complaints()
 
     def forget(self):
         """Forgets what was said of the page up to now."""
@@ -206,8 +215,7 @@ class Chromium(Browser):
         nodes = [it for it in self.ask("Accessibility.getFullAXTree")["nodes"] if not it["ignored"]]
         return sum(it["role"]["value"] == role and it.get("name", {}).get("value", "") == name for it in nodes)
 
-    def complaints(self):
-        """What the browser's console has of the page: errors, warnings and what was not allowed."""
+    def _complaints(self):
         found = []
         for event in self.events:
             if event["method"] == "Runtime.exceptionThrown":
@@ -305,7 +313,7 @@ class Firefox(Browser):
     def count_named(self, role, name):
         return len(self._find(type="accessibility", value={"role": role, "name": name}))
 
-    def complaints(self):
+    def _complaints(self):
         return [it["params"]["text"] for it in self.events if it["method"] == "log.entryAdded" and it["params"]["level"] in ("error", "warn")]
 
     def _screenshot(self):

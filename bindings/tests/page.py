@@ -310,7 +310,8 @@ class Use(Page):
             self.browser.wait("document.querySelector('#description-fault').textContent.endsWith('has more than 4,194,304 bytes.')")
 
     def test_a_link_holds_the_problem_in_its_fragment(self):
-        self.write("#description", (TOP / "examples" / "frame.txt").read_text())
+        frame = (TOP / "examples" / "frame.txt").read_text()
+        self.write("#description", frame)
         self.browser.run("document.querySelector('#count').value = 6")
         self.browser.run("document.querySelector('#link').click()")
         self.browser.wait("location.hash.length > 1")
@@ -318,9 +319,14 @@ class Use(Page):
         self.assertTrue(link.startswith(f"{self.address}#trees,6,"))
         self.open(link)
         self.browser.wait("document.querySelector('#command').value === 'trees'")
-        self.assertEqual((self.text("#description"), self.text("#count")), ((TOP / "examples" / "frame.txt").read_text(), "6"))
-        self.browser.run("location.hash = '#what,ever,!'")
-        self.browser.run("location.hash = '#trees,1,AAAA'")
+        self.assertEqual((self.text("#description"), self.text("#count")), (frame, "6"))
+        for fragment in ("#what,ever,!", "#trees,1,AAAA"):
+            # The page reads a fragment after the event, by streams.
+            self.browser.run(f"""new Promise((done) => {{
+                addEventListener("hashchange", () => setTimeout(done, 200), {{ once: true }});
+                location.hash = "{fragment}";
+            }})""")
+            self.assertEqual((self.text("#description"), self.text("#count")), (frame, "6"))
 
     def test_an_answer_and_its_picture_are_saved_as_they_are(self):
         self.solve()
