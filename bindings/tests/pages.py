@@ -11,6 +11,8 @@ import browser as browsers
 OUT = pathlib.Path(__file__).resolve().parent.parent / "out"
 #: The address of the page that is one file.
 ONE_FILE = (OUT / "matbench.html").as_uri()
+#: The paths that the servers of the page were asked for.
+ASKED = []
 
 
 class _Handler(http.server.SimpleHTTPRequestHandler):
@@ -22,6 +24,7 @@ class _Handler(http.server.SimpleHTTPRequestHandler):
 
     def send_head(self):
         """Answers a request. The file that is missing is not found."""
+        ASKED.append(self.path)
         if self.path != self.missing:
             return super().send_head()
         return self.send_error(404)
