@@ -23,6 +23,13 @@ PEOPLE = (TOP / "examples" / "people.txt").read_text()
 MARKUP = "\n".join(["matroids 2", "rooted 3 3", 'elements a&b <script>x</script> "q"', "vertices A&B <img> &lt;", "root A&B", "arc A&B <img> 3",
                     "arc <img> &lt; 2", "arc A&B &lt; 7", "end", ""])
 
+#: Asks another server for something: the directive of the page's policy that does not let it, or null where none has said so.
+SEND = """new Promise((tell) => {
+  document.addEventListener("securitypolicyviolation", (event) => tell(event.effectiveDirective), { once: true });
+  const late = () => setTimeout(() => tell(null), 5000);
+  fetch("https://example.org/").then(late, late);
+})"""
+
 
 def long_problem(unions=64):
     """A problem that takes ten seconds or more: a union of 64 unions of 64 uniform matroids, against a partition. With fewer unions it takes
@@ -390,13 +397,14 @@ class Use(Page):
 
     def test_nothing_is_sent(self):
         self.solve()
-        policy = self.browser.run("document.querySelector('meta[http-equiv]').content")
-        self.assertIn("default-src 'none'", policy)
         loaded = self.browser.run("performance.getEntriesByType('resource').map((it) => it.name)")
         self.assertEqual([it for it in loaded if not it.startswith(self.address)], [])
-        refused = self.browser.run("fetch('https://example.org/').then(() => false, () => true)")
-        self.assertTrue(refused)
-        self.browser.forget()
+        for address in (self.address, pages.ONE_FILE):
+            self.open(address)
+            policy = self.browser.run("document.querySelector('meta[http-equiv]').content")
+            self.assertIn("default-src 'none'", policy)
+            self.assertEqual(self.browser.run(SEND), "connect-src", address)
+            self.browser.forget()
 
 
 class BadUse(Page):
