@@ -14,16 +14,13 @@ trap 'exit 143' HUP INT TERM
 
 # WORDS are from the list, a command and at most a number. No file grows beyond a certificate's 64 MB: `ulimit -f` counts pieces of 512 bytes.
 (
+    [ -z "$host" ] || exec sh "$(dirname -- "$0")/by_ssh.sh" "$host" "exec matbench-many/mat_main $words -"
     ulimit -f 131073
-    if [ -n "$host" ]; then
-        exec ${MANY_SSH:-ssh} -T -a -x -o BatchMode=yes -o ConnectTimeout=10 -o ServerAliveInterval=15 "$host" \
-            "exec matbench-many/mat_main $words -"
-    fi
     exec "$program" $words -
 ) <"$run/in/$id" >"$part" 2>"$note"
 status=$?
 
 [ "$status" -eq 0 ] && mv -f "$part" "$run/out/$id.cert"
 said=$(tr -cd '\040-\176' <"$note" | head -c 200)
-echo "$status on ${host:-${SLURMD_NODENAME:-this machine}}${said:+: $said}" >"$note" && mv -f "$note" "$run/out/$id.status"
+printf '%s\n' "$status on ${host:-${SLURMD_NODENAME:-this machine}}${said:+: $said}" >"$note" && mv -f "$note" "$run/out/$id.status"
 exit "$status"

@@ -13,7 +13,7 @@ program=${MATBENCH:-$here/../../crates/mat_main/out/mat_main}
 
 # Sends the program to a host, starts it there, and prints how many processors the host says it has.
 send() {
-    ${MANY_SSH:-ssh} -T -a -x -o BatchMode=yes -o ConnectTimeout=10 "$1" 'mkdir -p matbench-many && cd matbench-many && cat >new.$$ &&
+    sh "$here/by_ssh.sh" "$1" 'mkdir -p matbench-many && cd matbench-many && cat >new.$$ &&
         chmod 755 new.$$ && mv -f new.$$ mat_main && ./mat_main --version >/dev/null && nproc' <"$program" 2>"$run/hosts.note" | head -c 20
 }
 
@@ -31,7 +31,7 @@ while read -r line; do
     jobs=$(send "$host")
     case $jobs in
     '' | 0* | *[!0-9]*)
-        echo "over_parallel.sh: $host: left out: $(tr -cd '\040-\176' <"$run/hosts.note" | head -c 200)" >&2
+        printf '%s\n' "over_parallel.sh: $host: left out: $(tr -cd '\040-\176' <"$run/hosts.note" | head -c 200)" >&2
         continue ;;
     ???*) jobs=99 ;;
     esac
