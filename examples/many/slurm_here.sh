@@ -2,14 +2,17 @@
 # slurm_here.sh start FOLDER, slurm_here.sh stop FOLDER: a Slurm of one node, which is this machine, to try job arrays with.
 #
 # `start` makes a key, starts munged, slurmctld and slurmd with settings, sockets, logs and process ids in FOLDER, on the ports 16817 and 16818
-# of this machine (or MANY_PORT and the next), and waits until the node is idle. It changes no file of the system, and a Slurm that runs here already is left alone. The
-# commands of Slurm find it by the variable SLURM_CONF, as in `SLURM_CONF=FOLDER/slurm.conf sinfo`. `stop` ends these three processes.
+# of this machine (or MANY_PORT and the next), and waits until the node is idle. FOLDER is new, empty or one of `start`, else it is left alone. No
+# file of the system is changed, and a Slurm that runs here already is left alone. The commands of Slurm find this one by the variable SLURM_CONF,
+# as in `SLURM_CONF=FOLDER/slurm.conf sinfo`. `stop` ends the three processes of a folder of `start`.
 # A cluster has its own Slurm; this is none for work: its one user is the one who starts it, and it keeps no accounts.
 set -u
 port=${MANY_PORT:-16817}
-[ "$#" -eq 2 ] || { sed -n '2,7s/^# \{0,1\}//p' "$0" >&2; exit 64; }
+[ "$#" -eq 2 ] || { sed -n '2,8s/^# \{0,1\}//p' "$0" >&2; exit 64; }
 PATH=$PATH:/usr/sbin
-mkdir -p "$2" && chmod 755 "$2" && cd "$2" && folder=$(pwd) || exit 71
+[ "$1" != start ] || mkdir -p "$2" || exit 71
+CDPATH='' cd -- "$2" && folder=$(pwd) || exit 71
+mark=made_by_slurm_here
 
 # Ends the process whose id a file has, and waits for its end.
 end() {
@@ -29,6 +32,15 @@ stop() {
     end munged.pid
 }
 
+is_empty() {
+    inside=$(ls -A) && [ -z "$inside" ]
+}
+
+leave_alone() {
+    echo "slurm_here.sh: $folder is no folder of slurm_here.sh start, and is left alone" >&2
+    exit 71
+}
+
 fail() {
     echo "slurm_here.sh: $1 did not start; the logs in $folder say why" >&2
     stop
@@ -36,6 +48,8 @@ fail() {
 }
 
 start() {
+    [ -e "$mark" ] || is_empty || leave_alone
+    : >"$mark" && chmod 755 . || exit 71
     for command in munged slurmctld slurmd sbatch sinfo; do
         command -v "$command" >/dev/null || { echo "slurm_here.sh: $command is missing: apt-get install slurm-wlm munge" >&2; exit 69; }
     done
@@ -91,6 +105,6 @@ END
 
 case $1 in
 start) start ;;
-stop) stop ;;
+stop) [ -e "$mark" ] || leave_alone; stop ;;
 *) echo "slurm_here.sh: start or stop" >&2; exit 64 ;;
 esac
