@@ -23,7 +23,7 @@ from concurrent.futures import ThreadPoolExecutor
 TOP = os.path.dirname(os.path.dirname(os.path.dirname(os.path.abspath(__file__))))
 PROGRAM = os.environ.get("MATBENCH") or os.path.join(TOP, "crates/mat_main/out/mat_main")
 ID = re.compile(r"[A-Za-z0-9][A-Za-z0-9_-]{0,63}")
-WORDS = re.compile(r"best|intersect|union|pack|cover|arborescence|rainbow|assign|(trees|disjoint) [1-9][0-9]?")
+WORDS = re.compile(r"best|intersect|union|pack|cover|arborescence|rainbow|assign|(trees|disjoint) ([1-9]|[1-5][0-9]|6[0-4])")
 LONGEST_DESCRIPTION = 4194304
 LONGEST_CERTIFICATE = 67108864
 LONGEST_STATUS = 400
