@@ -63,16 +63,22 @@ cat >"$folder/ssh" <<END
 while [ "\$#" -gt 2 ]; do shift; done
 mkdir -p "$folder/home" && cd "$folder/home" || exit 255
 case \$1:\$2 in
+endless:mkdir*) exec yes '\033[2Jnot yet' >&2 ;;
+vast:mkdir*) sh -c "\$2" >/dev/null && echo 1024 ;;
 *:mkdir*) exec sh -c "\$2" ;;
 liar:*) sh -c "\$2" | sed 's/^rung 2 .*/&0/' ;;
 dying:*) sleep 0.2; echo 'Connection closed' >&2; exit 255 ;;
 cut:*) sh -c "\$2" | head -n 3 ;;
 flood:*) exec yes 'certificate 1' ;;
-rude:*) printf '\033[2Jgone\n' >&2; exit 7 ;;
+rude:*) printf '\033[2Jgone\\\\033[2J\n' >&2; exit 7 ;;
 *) exec sh -c "\$2" ;;
 esac
 END
-chmod 755 "$folder/slow" "$folder/ssh"
+# Two programs under the name of GNU parallel: another one, and one that ends before the first job.
+mkdir -p "$folder/another" "$folder/idle"
+printf '#!/bin/sh\nexit 1\n' >"$folder/another/parallel"
+printf '#!/bin/sh\necho GNU parallel\n' >"$folder/idle/parallel"
+chmod 755 "$folder/slow" "$folder/ssh" "$folder/another/parallel" "$folder/idle/parallel"
 
 echo "-- over this machine, by GNU parallel"
 expect "the whole script" "20 right, 0 refused, 0 missing" "$(sh "$here/whole.sh" "$folder/whole" parallel 20 40 2>&1 | last)"
@@ -88,6 +94,10 @@ rm "$folder/deadly"
 expect "they are missing" "missing: graph_3: status 137 on this machine" "$(judge "$folder/deadly.run" | head -n 1)"
 expect "and no other" "16 right, 0 refused, 4 missing" "$(judge "$folder/deadly.run" | last)"
 expect "they alone are to be done" "4 to do, 16 there, 0 not sent" "$(lay "$folder/deadly.run")"
+expect "another program has the name of GNU parallel" "over_parallel.sh: GNU parallel is missing; on Debian: apt-get install parallel" \
+    "$(PATH=$folder/another:$PATH spread "$folder/deadly.run" "$folder/hosts")"
+PATH=$folder/idle:$PATH sh "$here/over_parallel.sh" "$folder/deadly.run" "$folder/hosts" >"$folder/told" 2>&1
+expect "GNU parallel ends before the first job, beside the log of an earlier run" "status 1: 0 jobs ran, 0 failed" "status $?: $(last <"$folder/told")"
 expect "they are run again" "4 jobs ran, 0 failed" "$(spread "$folder/deadly.run" "$folder/hosts" | last)"
 expect "and all is right" "20 right, 0 refused, 0 missing" "$(judge "$folder/deadly.run" | last)"
 
@@ -129,13 +139,26 @@ expect "all of them" "0 right, 20 refused, 0 missing" "$(judge "$folder/short" |
 printf '4/rude\n' >"$folder/hosts.rude"
 lay "$folder/rude" >/dev/null
 spread "$folder/rude" "$folder/hosts.rude" >/dev/null
-expect "a note with signs for a terminal is shown without them" "missing: pair_1: status 7 on rude: [2Jgone" "$(judge "$folder/rude" | head -n 1)"
+expect "a note with signs for a terminal is shown without them" "missing: pair_1: status 7 on rude: [2Jgone\033[2J" \
+    "$(judge "$folder/rude" | head -n 1)"
+expect "and none is in its file" "0" "$(tr -d '\n\040-\176' <"$folder/rude/out/pair_1.status" | wc -c)"
 
 head -n 1 "$folder/list" >"$folder/list.one"
 printf '1/flood\n' >"$folder/hosts.flood"
 python3 "$here/jobs.py" lay "$folder/list.one" "$folder/flood" >/dev/null
 expect "a certificate without an end is cut off" "1 jobs ran, 1 failed" "$(spread "$folder/flood" "$folder/hosts.flood" | last)"
 expect "and is missing" "0 right, 0 refused, 1 missing" "$(python3 "$here/jobs.py" judge "$folder/list.one" "$folder/flood" | last)"
+
+printf 'endless\n' >"$folder/hosts.endless"
+spread "$folder/flood" "$folder/hosts.endless" >"$folder/told"
+expect "a host that writes without end before any job is left out" "over_parallel.sh: no host is left" "$(last <"$folder/told")"
+expect "its note is cut off" "67109376" "$(wc -c <"$folder/flood/hosts.note")"
+expect "and is shown without signs for a terminal" "0" "$(tr -d '\n\040-\176' <"$folder/told" | wc -c)"
+
+printf 'vast\n' >"$folder/hosts.vast"
+spread "$folder/flood" "$folder/hosts.vast" >/dev/null
+expect "a host with 1,024 processors gets 99 jobs at a time" "99/vast" "$(cat "$folder/flood/hosts")"
+expect "and does the job" "1 right, 0 refused, 0 missing" "$(python3 "$here/jobs.py" judge "$folder/list.one" "$folder/flood" | last)"
 unset MANY_SSH
 
 echo "-- files"
@@ -145,7 +168,7 @@ printf 'odd\tintersect\t%s\n' "$odd" >"$folder/list.odd"
 python3 "$here/jobs.py" lay "$folder/list.odd" "$folder/odd" >/dev/null
 spread "$folder/odd" "$folder/hosts" >/dev/null
 expect "a name with odd characters" "1 right, 0 refused, 0 missing" "$(python3 "$here/jobs.py" judge "$folder/list.odd" "$folder/odd" | last)"
-for line in '../up\tintersect\tx' '-n\tintersect\tx' 'a\tintersect;id\tx' 'a\tintersect x' 'a\tshow\tx' 'a\tcuts\tx'; do
+for line in '../up\tintersect\tx' '-n\tintersect\tx' 'a\tintersect;id\tx' 'a\tintersect x' 'a\tshow\tx' 'a\tcuts\tx' 'a\ttrees 65\tx'; do
     printf '%b\n' "$line" >"$folder/list.bad"
     expect "a list with the line $line" "jobs.py: $folder/list.bad: line 1 is not ID, WORDS and FILE with a tab between them" \
         "$(python3 "$here/jobs.py" lay "$folder/list.bad" "$folder/bad" 2>&1)"
@@ -210,7 +233,24 @@ else
     echo "left out: there is no sshd, or no folder /run/sshd for it"
 fi
 
+echo "-- a task of an array"
+mkdir -p "$folder/task/in" "$folder/task/out"
+cp "$here/one.sh" "$folder/task"
+printf '#!/bin/sh\n[ "$1" != trees ]\n' >"$folder/task/mat_main"
+chmod 755 "$folder/task/mat_main"
+touch "$folder/task/in/first" "$folder/task/in/second"
+printf 'first\ttrees 2\nsecond\tbest\n' >"$folder/task/todo"
+(cd "$folder/task" && SLURM_ARRAY_TASK_ID=1 sh "$here/array_task.sh" todo 2)
+expect "a job fails that is not the last of its task" "1" "$?"
+expect "and the other is done" "second.cert" "$(cd "$folder/task/out" && ls -- *.cert)"
+
 echo "-- over a Slurm of one node"
+mkdir -p "$folder/other/state"
+for word in start stop; do
+    expect "$word in a folder with other things" "slurm_here.sh: $folder/other is no folder of slurm_here.sh start, and is left alone" \
+        "$(sh "$here/slurm_here.sh" "$word" "$folder/other" 2>&1)"
+done
+expect "they are still there" "state" "$(ls -A "$folder/other")"
 unset SLURM_CONF
 if command -v slurmd >/dev/null; then
     expect "the whole script" "20 right, 0 refused, 0 missing" "$(sh "$here/whole.sh" "$folder/whole_slurm" slurm 20 40 2>&1 | last)"
@@ -225,8 +265,8 @@ if command -v slurmd >/dev/null; then
     wait "$spreading"
     expect "a task is killed, and its job is missing" "19 right, 0 refused, 1 missing" "$(judge "$folder/slurm.run" | last)"
     expect "it alone is to be done" "1 to do, 19 there, 0 not sent" "$(lay "$folder/slurm.run")"
-    sh "$here/over_slurm.sh" "$folder/slurm.run" "$folder/nodes"
-    expect "and all is right" "20 right, 0 refused, 0 missing" "$(judge "$folder/slurm.run" | last)"
+    (cd "$folder" && sh "$here/over_slurm.sh" slurm.run nodes)
+    expect "and all is right, with folders named from this one" "20 right, 0 refused, 0 missing" "$(judge "$folder/slurm.run" | last)"
 
     lay "$folder/ended.run" >/dev/null
     MATBENCH=$folder/slow sh "$here/over_slurm.sh" "$folder/ended.run" "$folder/nodes" 2 &
