@@ -47,20 +47,8 @@ fail() {
     exit 70
 }
 
-start() {
-    [ -e "$mark" ] || is_empty || leave_alone
-    : >"$mark" && chmod 755 . || exit 71
-    for command in munged slurmctld slurmd sbatch sinfo; do
-        command -v "$command" >/dev/null || { echo "slurm_here.sh: $command is missing: apt-get install slurm-wlm munge" >&2; exit 69; }
-    done
-    echo "a key for munge"
-    rm -rf state spool
-    mkdir state spool
-    (umask 077 && head -c 128 /dev/urandom >munge.key)
-    echo "munged, which lets the three trust each other's messages"
-    munged --force --key-file="$folder/munge.key" --socket="$folder/munge" --pid-file="$folder/munged.pid" --log-file="$folder/munged.log" \
-        --seed-file="$folder/munged.seed" >munged.out 2>&1 || { cat munged.out >&2; exit 70; }
-
+# Writes the settings of a Slurm whose one node is this machine.
+write_settings() {
     node=$(hostname -s)
     user=$(id -un)
     cat >slurm.conf <<END
@@ -91,16 +79,38 @@ ReturnToService=2
 NodeName=$node NodeAddr=127.0.0.1 CPUs=$(nproc) State=UNKNOWN
 PartitionName=all Nodes=$node Default=YES MaxTime=INFINITE State=UP
 END
-    export SLURM_CONF="$folder/slurm.conf"
-    echo "slurmctld, which holds the queue"
-    slurmctld || fail slurmctld
-    echo "slurmd, which runs tasks on this machine"
-    slurmd || fail slurmd
+}
+
+# Waits until the node takes tasks, half a minute at most.
+wait_until_idle() {
     for _ in $(seq 300); do
         [ "$(sinfo -h -o %T 2>/dev/null)" = idle ] && echo "the node $node is idle: SLURM_CONF=$folder/slurm.conf" && return
         sleep 0.1
     done
     fail "the node"
+}
+
+start() {
+    [ -e "$mark" ] || is_empty || leave_alone
+    : >"$mark" && chmod 755 . || exit 71
+    for command in munged slurmctld slurmd sbatch sinfo; do
+        command -v "$command" >/dev/null || { echo "slurm_here.sh: $command is missing: apt-get install slurm-wlm munge" >&2; exit 69; }
+    done
+    echo "a key for munge"
+    rm -rf state spool
+    mkdir state spool
+    (umask 077 && head -c 128 /dev/urandom >munge.key)
+    echo "munged, which lets the three trust each other's messages"
+    munged --force --key-file="$folder/munge.key" --socket="$folder/munge" --pid-file="$folder/munged.pid" --log-file="$folder/munged.log" \
+        --seed-file="$folder/munged.seed" >munged.out 2>&1 || { cat munged.out >&2; exit 70; }
+
+    write_settings
+    export SLURM_CONF="$folder/slurm.conf"
+    echo "slurmctld, which holds the queue"
+    slurmctld || fail slurmctld
+    echo "slurmd, which runs tasks on this machine"
+    slurmd || fail slurmd
+    wait_until_idle
 }
 
 case $1 in
