@@ -102,6 +102,8 @@ compare_program() {
         "$kit/c/libos_c.a" "$kit/c/liblibc_c.a" >/dev/null 2>&1 || fail "the program cannot be linked"
     if cmp -s "$work/mat_main" "$top/crates/mat_main/out/mat_main"; then
         echo "build.sh: linked, the object file is the program of ./matbench, byte for byte"
+    else
+        echo "build.sh: note: linked, the object file is not the program of ./matbench byte for byte, though of the same sources" >&2
     fi
 }
 

@@ -11,7 +11,7 @@ import unittest
 
 HERE = pathlib.Path(__file__).resolve().parent
 TOP = HERE.parent.parent
-sys.path[:0] = [str(HERE.parent), str(TOP / "bench")]
+sys.path.insert(0, str(HERE.parent))
 
 import browser as browsers  # noqa: E402
 import matbench  # noqa: E402

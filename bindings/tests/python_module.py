@@ -318,7 +318,15 @@ class Graphs(unittest.TestCase):
             data["weight"] = 1 + (5 * place) % 13
         answer = matbench.best(matbench.forests_description(graph))
         self.assertEqual(answer.best.weight, networkx.maximum_spanning_tree(graph).size(weight="weight"))
-        self.assertEqual(len(matbench.pack(matbench.forests_description(graph)).bases), 3)
+
+    def test_as_many_spanning_trees_are_packed_as_there_are(self):
+        graph = networkx.gnp_random_graph(15, 0.5, seed=1)
+        bases = matbench.pack(matbench.forests_description(graph)).bases
+        for base in bases:
+            self.assertTrue(networkx.is_tree(graph.edge_subgraph(base)))
+        self.assertEqual(len({edge for base in bases for edge in base}), 14 * len(bases))
+        # No more have room among the edges, since each has 14.
+        self.assertEqual(len(bases), graph.number_of_edges() // 14)
 
     def test_nodes_have_their_names_in_words_and_pictures(self):
         graph = networkx.DiGraph([("Harbour", "Old Mill"), ("Old Mill", "Abbey")])
