@@ -198,6 +198,8 @@ def main():
         sys.exit(f"shown.py: {program}: there is no such program; ./matbench --version builds it")
     folder = tempfile.mkdtemp(prefix="shown")
     os.symlink(program, os.path.join(folder, "matbench"))
+    # The scripts of examples/many/ take this program then.
+    os.environ["MATBENCH"] = program
     for name in ("bench", "crates", "docs", "examples"):
         os.symlink(os.path.join(TOP, name), os.path.join(folder, name))
     try:

@@ -1,14 +1,16 @@
-"""python3 examples/names.py [--best | --split SIZE] FILE < ANSWER: the sets of an answer, in the names of its description FILE.
+"""python3 examples/names.py [--best [--most SIZE] | --split SIZE] FILE < ANSWER: the sets of an answer, in the names of its description FILE.
 
 FILE is in version 2 (./matbench convert gives names to one that has none). A rung is printed as 'SIZE for WEIGHT: NAMES', every other set
 behind its word, and behind vertices the arcs that enter them; splits, levels and colours are left out. WEIGHT may be A:B, as in
 '3 for 15:3: NAMES': split a line at ': '.
 
---best prints the rung of the greatest weight alone, with a line for each name below it; of rungs of the same weight, the largest.
+--best prints the rung of the greatest weight alone, with a line for each name below it; of rungs of the same weight, the largest. --most SIZE
+looks at rungs up to this size alone.
 --split SIZE prints the rung of this size with the sums of first and second over its set, and below it each element of which the second
 share is not 0, with its first and its second share.
 """
 import argparse
+import signal
 import sys
 
 
@@ -41,11 +43,11 @@ def rungs_of(answer):
     return rungs
 
 
-def print_best(elements, rungs):
-    """Prints the rung of the greatest weight, the largest of several."""
+def print_best(elements, rungs, most):
+    """Prints the rung of the greatest weight, the largest of several, of those up to a size."""
     if not rungs:
         sys.exit("names.py: the answer has no rungs")
-    size = max(rungs, key=lambda each: (weight_of(rungs[each]["weight"]), each))
+    size = max((size for size in rungs if size <= most), key=lambda each: (weight_of(rungs[each]["weight"]), each))
     print(f"{size} for {rungs[size]['weight']}:")
     for element in rungs[size]["set"]:
         print(elements[int(element)])
@@ -97,21 +99,28 @@ def main():
     shown = parser.add_mutually_exclusive_group()
     shown.add_argument("--best", action="store_true", help="the rung of the greatest weight alone")
     shown.add_argument("--split", type=int, metavar="SIZE", help="why the rung of this size is best")
+    parser.add_argument("--most", type=int, metavar="SIZE", help="with --best: of the rungs up to this size")
     parser.add_argument("file", metavar="FILE", help="the description, in version 2")
     words = parser.parse_args()
+    if words.most is not None and (words.most < 0 or not words.best):
+        parser.error("--most takes a size from 0, and stands beside --best")
     with open(words.file, encoding="ascii") as file:
         lines = file.read().splitlines()
     if lines[:1] != ["matroids 2"]:
         sys.exit("names.py: the description has no names; ./matbench convert FILE writes it with names")
     elements, vertices = names_behind("elements", lines), names_behind("vertices", lines)
+    answer = sys.stdin.read().splitlines()
+    if not answer:
+        sys.exit("names.py: there is no answer on standard input")
     if words.best:
-        print_best(elements, rungs_of(sys.stdin))
+        print_best(elements, rungs_of(answer), len(elements) if words.most is None else words.most)
     elif words.split is not None:
-        print_split(elements, rungs_of(sys.stdin).get(words.split, {}), words.split)
+        print_split(elements, rungs_of(answer).get(words.split, {}), words.split)
     else:
-        print_all(elements, vertices, [line.split()[1:3] for line in lines if line.startswith("arc ")], sys.stdin)
+        print_all(elements, vertices, [line.split()[1:3] for line in lines if line.startswith("arc ")], answer)
 
 
+signal.signal(signal.SIGPIPE, signal.SIG_DFL)
 try:
     main()
 except IndexError:
