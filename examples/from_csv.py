@@ -1,16 +1,21 @@
 """python3 examples/from_csv.py WISHES.csv LIMITS.csv: a description of wishes with a limit for each shift and each person.
 
-WISHES.csv has the columns person, shift and gain, and a line for each wish. It may have three more: day (nobody works twice on a day), must (a
-word where the wish has to be granted) and last (a word where it was granted last time). LIMITS.csv has the columns name and most, and a line for
-each shift and each person; where it has a column least too, a shift needs so many. Both are as spreadsheets save them.
+WISHES.csv has the columns person, shift and gain, and a line for each wish. It may have three more: day (nobody works twice on a day), must (the
+wish has to be granted) and last (it was granted last time), of which the last two have a word such as yes, or nothing or no. LIMITS.csv has the
+columns name and most, and a line for each shift and each person; where it has a column least too, a shift needs so many. Both are as
+spreadsheets save them, in UTF-8.
 
-A wish gets the name PERSON.SHIFT, with '_' for a space; one of a shift with a least number stands there twice, the second time as
-PERSON.SHIFT.more. With least or must the best of all sizes weighs A:B, A of the numbers and wishes that have to be met and the gain B. With last
-it weighs A:B, the gain A and B, by which the changes are fewest.
+A wish gets the name PERSON.SHIFT, with '_' for a space. One of a shift with a least number below its most stands there twice, the second time as
+PERSON.SHIFT.more. With least or must a weight is A:B, A what has to be met and B the gain; with last it is A:B, A the gain and B 1 or -1.
 """
 import csv
 import re
+import signal
 import sys
+
+MOST_ELEMENTS = 500
+NAME_LENGTH = 32
+MORE = ".more"
 
 
 def refuse(what):
@@ -18,33 +23,50 @@ def refuse(what):
     sys.exit(f"from_csv.py: {what}")
 
 
-def rows_of(name, *columns):
-    """The lines of a spreadsheet, with their columns by name, of which these have to be there."""
-    with open(name, encoding="utf-8-sig", newline="") as file:
-        lines = file.read().splitlines()
-    rows = list(csv.DictReader(lines, delimiter=";" if lines and ";" in lines[0] else ",", restval=""))
-    if not rows or not set(columns) <= set(rows[0]):
-        refuse(f"{name}: there have to be lines, with the columns {', '.join(columns)}")
-    return rows
+def lines_of(name):
+    """The lines of a file."""
+    try:
+        with open(name, encoding="utf-8-sig", newline="") as file:
+            return file.read().splitlines()
+    except OSError as error:
+        return refuse(f"{name}: {error.strerror}")
+    except UnicodeDecodeError:
+        return refuse(f"{name}: this is no text in UTF-8: save it as CSV in UTF-8")
 
 
-def count_in(row, column):
-    """The number in a column of a limit, 0 where it is empty."""
-    word = row.get(column, "").strip() or "0"
+def rows_of(name, needed, further):
+    """The lines of a spreadsheet that are not empty, with their cells by columns, of which some are needed and some may be there."""
+    lines = lines_of(name)
+    heads, *table = csv.reader(lines, delimiter=";" if lines and ";" in lines[0] else ",") if lines else [[]]
+    heads = [head.strip().lower() for head in heads]
+    if not set(needed) <= set(heads) <= {*needed, *further}:
+        refuse(f"{name}: the first line has the columns {', '.join(needed)}, and may have {', '.join(further)}; here it has {', '.join(heads)}")
+    rows = []
+    for cells in ([cell.strip() for cell in cells] for cells in table):
+        if len(cells) > len(heads):
+            refuse(f"{name}: the line {','.join(cells)} has more cells than the first one")
+        if any(cells):
+            rows.append(dict(zip(heads, cells + [""] * (len(heads) - len(cells)))))
+    return rows or refuse(f"{name}: no line stands behind the first one")
+
+
+def count_of(row, column):
+    """The number in a column of a limit, 0 where there is none."""
+    word = row.get(column) or "0"
     if not re.fullmatch("[0-9]+", word):
-        refuse(f"{row['name']}: {column} is a whole number from 0, and not {word}")
-    return int(word)
+        refuse(f"{row['name']}: {column} is a whole number from 0, and not '{word}'")
+    return min(int(word), MOST_ELEMENTS)
 
 
 def limits_of(name):
     """How many at most and how many at least, by the name of a shift or a person."""
     limits = {}
-    for row in rows_of(name, "name", "most"):
+    for row in rows_of(name, ("name", "most"), ("least",)):
         if row["name"] in limits:
             refuse(f"{row['name']}: this name stands twice in {name}")
-        if not row["most"].strip():
+        if not row["most"]:
             refuse(f"{row['name']}: the line of {name} has no number")
-        limits[row["name"]] = most, least = count_in(row, "most"), count_in(row, "least")
+        limits[row["name"]] = most, least = count_of(row, "most"), count_of(row, "least")
         if least > most:
             refuse(f"{row['name']}: at least {least} are more than at most {most}")
     return limits
@@ -55,51 +77,74 @@ def name_of(wish):
     return f"{wish['person']}.{wish['shift']}".replace(" ", "_")
 
 
-def refuse_faults(wishes, limits):
-    """Ends where a wish has no good name or gain, or stands twice, or a limit is missing or cannot be."""
-    names = [name_of(wish) for wish in wishes]
-    for name, wish in zip(names, wishes):
-        longest = 27 if limits.get(wish["shift"], (0, 0))[1] else 32
-        if not (name.isascii() and name.isprintable() and len(name) <= longest):
-            refuse(f"{name}: a name has at most {longest} letters, digits and signs, all of ASCII")
-        if names.count(name) > 1:
-            refuse(f"{name}: this wish stands twice")
-        if not re.fullmatch(r"(0|-?[1-9][0-9]*)(:-?[1-9][0-9]*)?", wish["gain"].strip()):
-            refuse(f"{name}: a gain is a whole number, and not '{wish['gain']}': measure all gains in a smaller unit, such as tenths or cents")
-        for value in (wish["shift"], wish["person"]):
-            if value not in limits:
-                refuse(f"{value}: no line of {sys.argv[2]} says how many at most")
-        if limits[wish["person"]][1]:
-            refuse(f"{wish['person']}: a least number is for shifts alone")
+def refuse_wish(wish, limits, limits_name):
+    """Ends where a wish has no good name or gain, or lacks a limit or a day."""
+    name = name_of(wish)
+    for value in (wish["shift"], wish["person"]):
+        if value not in limits:
+            refuse(f"'{value}': no line of {limits_name} says how many at most")
+    longest = NAME_LENGTH - (len(MORE) if limits[wish["shift"]][1] else 0)
+    if not (name.isascii() and name.isprintable() and len(name) <= longest):
+        refuse(f"{name}: a name has at most {longest} letters, digits and signs, all of ASCII")
+    if not wish["gain"]:
+        refuse(f"{name}: the wish has no gain")
+    if not re.fullmatch("(0|-?[1-9][0-9]*)(:-?[1-9][0-9]*)?", wish["gain"]):
+        refuse(f"{name}: a gain is a whole number, and not '{wish['gain']}': measure all gains in a smaller unit, such as tenths or cents")
+    if limits[wish["person"]][1]:
+        refuse(f"{wish['person']}: a least number is for shifts alone")
+    if wish.get("day") == "":
+        refuse(f"{name}: the wish has no day")
 
 
-def copies_of(wishes, limits):
-    """The elements: each wish, once or, where its shift has a least number, twice. The first copy counts for the least number."""
+def refuse_faults(wishes, limits, limits_name):
+    """Ends where a wish has a fault or stands twice, or a shift stands on two days."""
+    names, days = set(), {}
+    for wish in wishes:
+        refuse_wish(wish, limits, limits_name)
+        if name_of(wish) in names:
+            refuse(f"{name_of(wish)}: this wish stands twice")
+        names.add(name_of(wish))
+        day = wish.get("day")
+        if days.setdefault(wish["shift"], day) != day:
+            refuse(f"{wish['shift']}: this shift stands on two days, {days[wish['shift']]} and {day}: give each its own name, as '{day} {wish['shift']}'")
+
+
+def elements_of(wishes, limits):
+    """The elements: each wish, and once more where its shift has a least number and room beyond. The first one counts for the least number."""
     found = []
     for wish in wishes:
-        least = limits[wish["shift"]][1]
-        found.append({**wish, "name": name_of(wish), "counts": 1 if least else 0})
-        if least:
-            found.append({**wish, "name": name_of(wish) + ".more", "counts": 0})
+        most, least = limits[wish["shift"]]
+        found.append({**wish, "name": name_of(wish), "counts": int(least > 0)})
+        if 0 < least < most:
+            found.append({**wish, "name": name_of(wish) + MORE, "counts": 0})
+    if len(found) > MOST_ELEMENTS:
+        refuse(f"{len(found)} elements are more than {MOST_ELEMENTS} (a wish of a shift with a least number may be two)")
     return found
 
 
+def is_marked(element, column):
+    """Whether a wish has a word in a column, and not one that says no."""
+    return element.get(column, "").lower() not in ("", "no", "0", "false")
+
+
+def weight_of(element, has_demands, has_last):
+    """A weight: the gain, with what has to be met in front, or with what was granted last time behind."""
+    gain = element["gain"]
+    if has_demands:
+        met = element["counts"] + is_marked(element, "must")
+        return f"{met}:{gain}" if gain != "0" else str(met)
+    if has_last:
+        return f"{gain}:{1 if is_marked(element, 'last') else -1}"
+    return gain
+
+
 def weights_of(elements):
-    """The weights: gains, with what has to be met in front, or with what was granted last time behind."""
-    has_demands = any(it["counts"] or it.get("must", "").strip() for it in elements)
-    has_last = any(it.get("last", "").strip() for it in elements)
-    has_pair = any(":" in it["gain"] for it in elements)
-    if has_demands + has_last + has_pair > 1:
-        refuse("a weight has two numbers: least and must, or last, or gains with a ':' can be taken, and no two of these together")
-    for it in elements:
-        gain = it["gain"].strip()
-        if has_demands:
-            met = it["counts"] + (1 if it.get("must", "").strip() else 0)
-            yield f"{met}:{gain}" if int(gain) else str(met)
-        elif has_last:
-            yield f"{gain}:{1 if it['last'].strip() else -1}"
-        else:
-            yield gain
+    """The weights of the elements."""
+    has_demands = any(it["counts"] or is_marked(it, "must") for it in elements)
+    has_last = any(is_marked(it, "last") for it in elements)
+    if has_demands + has_last + any(":" in it["gain"] for it in elements) > 1:
+        refuse("a weight has two numbers: of least and must, of last, and of gains with a ':' only one can be there")
+    return [weight_of(it, has_demands, has_last) for it in elements]
 
 
 def groups_by(column, elements):
@@ -108,25 +153,30 @@ def groups_by(column, elements):
 
 
 def limits_of_shifts(elements, limits):
-    """A class for each shift, and two for one with a least number."""
+    """A class for each shift, and two for one with a least number and room beyond."""
     for shift, group in groups_by("shift", elements):
         most, least = limits[shift]
+        beyond = [it for it in group if not it["counts"]]
         if least:
             yield least, [it for it in group if it["counts"]]
-        yield most - least, [it for it in group if not it["counts"]]
+        if beyond:
+            yield most - least, beyond
 
 
 def limits_of_people(elements, limits):
-    """A set for each person, and within it one for the wishes of each day and one for the copies of each wish."""
+    """A set for each person, and within it one of cap 1 for the wishes of each day and one for the two elements of each wish."""
+    columns = ("day", "shift") if "day" in elements[0] else ("shift",)
     for person, group in groups_by("person", elements):
-        yield limits[person][0], group
-        for column in ("day", "shift") if "day" in group[0] else ("shift",):
-            yield from ((1, same) for _, same in groups_by(column, group) if len(same) > 1)
+        most, within = limits[person][0], []
+        for column in columns:
+            within += [same for _, same in groups_by(column, group) if len(same) > 1 and same not in within]
+        yield most, group
+        if most > 1:
+            yield from ((1, same) for same in within)
 
 
 def print_limits(kind, word, limits):
     """Prints a matroid: the first line, and a line for each limit with its number and its elements."""
-    limits = list(limits)
     print(kind, len(limits))
     for number, elements in limits:
         print(word, number, *(it["name"] for it in elements))
@@ -136,16 +186,19 @@ def main():
     """Prints the description."""
     if len(sys.argv) != 3:
         sys.exit("usage: python3 examples/from_csv.py WISHES.csv LIMITS.csv")
-    wishes, limits = rows_of(sys.argv[1], "person", "shift", "gain"), limits_of(sys.argv[2])
-    refuse_faults(wishes, limits)
-    elements = copies_of(wishes, limits)
+    wishes, limits = rows_of(sys.argv[1], ("person", "shift", "gain"), ("day", "must", "last")), limits_of(sys.argv[2])
+    refuse_faults(wishes, limits, sys.argv[2])
+    elements = elements_of(wishes, limits)
+    weights = weights_of(elements)
+    shifts, people = list(limits_of_shifts(elements, limits)), list(limits_of_people(elements, limits))
     is_nested = "day" in wishes[0] or len(elements) > len(wishes)
     print("matroids 2", f"pair {len(elements)}", sep="\n")
     print("elements", *(it["name"] for it in elements))
-    print("weights", *weights_of(elements))
-    print_limits("partition", "class", limits_of_shifts(elements, limits))
-    print_limits(*(("laminar", "set") if is_nested else ("partition", "class")), limits_of_people(elements, limits))
+    print("weights", *weights)
+    print_limits("partition", "class", shifts)
+    print_limits(*(("laminar", "set") if is_nested else ("partition", "class")), people)
     print("end")
 
 
+signal.signal(signal.SIGPIPE, signal.SIG_DFL)
 main()

@@ -110,8 +110,11 @@ def main():
         sys.exit("names.py: the description has no names; ./matbench convert FILE writes it with names")
     elements, vertices = names_behind("elements", lines), names_behind("vertices", lines)
     answer = sys.stdin.read().splitlines()
-    if not answer:
+    count = next((line.split()[2] for line in answer if line.startswith("answer ")), None)
+    if count is None:
         sys.exit("names.py: there is no answer on standard input")
+    if count != str(len(elements)):
+        sys.exit(f"names.py: the answer is one to another description: it has {count} elements, and this one {len(elements)}")
     if words.best:
         print_best(elements, rungs_of(answer), len(elements) if words.most is None else words.most)
     elif words.split is not None:
@@ -121,7 +124,4 @@ def main():
 
 
 signal.signal(signal.SIGPIPE, signal.SIG_DFL)
-try:
-    main()
-except IndexError:
-    sys.exit("names.py: the answer is one to another description: it has numbers that are none of this one's")
+main()
