@@ -1,0 +1,126 @@
+#!/usr/bin/env python3
+"""Tries examples/from_csv.py: `spreadsheets.py [TABLES [SEED [PROGRAM]]]`, at the top of the repository.
+
+Draws small tables of wishes and limits, with and without the columns day, must, last and least; has the script make a description of each, solves
+it by `intersect`, and compares the weight of the best of all sizes, and that its plan keeps all limits, with what is found by trying all plans.
+Then it spoils a table in each way that the script names, and expects that name. Prints what is wrong and how many tables were tried, and ends
+with 1 where something is. TABLES is 100 and SEED 1 where they are not given; the program is crates/mat_main/out/mat_main where none is named.
+"""
+import collections
+import csv
+import itertools
+import os
+import random
+import subprocess
+import sys
+import tempfile
+
+TOP = os.path.dirname(os.path.dirname(os.path.abspath(__file__)))
+SHIFTS = ['Mon early', 'Mon late', 'Tue early', 'Tue late']
+WISHES = 'person,day,shift,gain\nAda,Mon,Mon early,5\nBen,Mon,Mon late,2\n'
+LIMITS = 'name,most,least\nMon early,2,1\nMon late,1,\nAda,1,\nBen,1,\n'
+#: What is changed in these tables, to what, and a part of what is said of it.
+SPOILT = [('gain', 'Gains', 'here it has person, day, shift, gains'), (',5', ',', 'the wish has no gain'), (',5', ',4.5', "not '4.5'"),
+          (',5', ',5,1', 'more cells than the first one'), ('Ben,Mon,Mon late', 'Ada,Mon,Mon early', 'stands twice'),
+          ('Ben,Mon,Mon late', 'Ben,Tue,Mon early', 'stands on two days, Mon and Tue'), ('Ada,Mon', 'Ada,', 'has no day'), ('Ada,Mon', 'Cleo,Mon', "'Cleo': no line of"),
+          ('Ada', 'Jörg', 'all of ASCII'), ('Ada', 'A' * 18, 'at most 27'), ('Ben,1,', 'Ada,1,', 'this name stands twice'),
+          ('Ben,1,', 'Ben,,', 'has no number'), ('Ben,1,', 'Ben,one,', "not 'one'"), ('Ben,1,', 'Ben,1,1', 'for shifts alone'),
+          ('early,2,1', 'early,2,3', 'at least 3 are more than at most 2'), (',5', ',5:1', 'a weight has two numbers')]
+
+
+def drawn(numbers):
+    """Wishes, and the most and the least by names."""
+    people, shifts = 'ABCD'[: numbers.randint(1, 4)], SHIFTS[: numbers.randint(1, 4)]
+    pairs = list(itertools.product(people, shifts))
+    kind = numbers.choice(['plain', 'least', 'must', 'both', 'last'])
+    columns = ['person', 'shift', 'gain', *numbers.choice([[], ['day']]), *{'must': ['must'], 'both': ['must'], 'last': ['last']}.get(kind, [])]
+    wishes = []
+    for person, shift in numbers.sample(pairs, numbers.randint(1, min(9, len(pairs)))):
+        row = {'person': person, 'shift': shift, 'gain': numbers.randint(-3, 9), 'day': shift[:3]}
+        wishes.append({column: row.get(column, numbers.choice(['yes', 'no', ''])) for column in columns})
+    limits = {shift: (most, numbers.randint(0, most) if kind in ('least', 'both') else 0) for shift in shifts for most in [numbers.randint(0, 2)]}
+    return wishes, limits | {person: (numbers.randint(0, 3), 0) for person in people}
+
+
+def keeps(plan, limits):
+    """Whether a plan keeps the limits of shifts and people, and nobody works twice on a day."""
+    counts = collections.Counter(wish[column] for wish in plan for column in ('person', 'shift'))
+    days = collections.Counter((wish['person'], wish['day']) for wish in plan if 'day' in wish)
+    return all(count <= limits[name][0] for name, count in counts.items()) and all(count == 1 for count in days.values())
+
+
+def weight_of(plan, wishes, limits):
+    """What a plan is worth: what is met and the gain, or the gain and what is kept."""
+    gain = sum(wish['gain'] for wish in plan)
+    has_demands = any(wish.get('must') == 'yes' or limits[wish['shift']][1] for wish in wishes)
+    if has_demands:
+        counts = collections.Counter(wish['shift'] for wish in plan)
+        return sum(min(counts[name], least) for name, (_, least) in limits.items()) + sum(wish.get('must') == 'yes' for wish in plan), gain
+    if any(wish.get('last') == 'yes' for wish in wishes):
+        return gain, sum(1 if wish['last'] == 'yes' else -1 for wish in plan)
+    return gain, 0
+
+
+def ran(words, given=None):
+    """A run that ends with 0 prints this; where it does not, the note."""
+    run = subprocess.run(words, input=given, capture_output=True, text=True)
+    return run.stdout if run.returncode == 0 else f'status {run.returncode}: {run.stderr}'
+
+
+def described(folder, wishes, limits):
+    """What the script says to two tables."""
+    names = [os.path.join(folder, name) for name in ('wishes.csv', 'limits.csv')]
+    for name, text in zip(names, (wishes, limits)):
+        with open(name, 'w', encoding='utf-8', newline='') as file:
+            file.write(text)
+    return ran([sys.executable, os.path.join(TOP, 'examples/from_csv.py'), *names])
+
+
+def text_of(rows, numbers):
+    """A table as a spreadsheet saves it."""
+    delimiter, end = numbers.choice([',', ';']), numbers.choice(['\n', '\r\n'])
+    return ''.join(delimiter.join(map(str, row)) + end for row in [list(rows[0]), *(row.values() for row in rows)])
+
+
+def best_by_program(program, folder, description):
+    """The weight of the best of all sizes, and its wishes as PERSON.SHIFT."""
+    path = os.path.join(folder, 'description.txt')
+    with open(path, 'w', encoding='ascii') as file:
+        file.write(description)
+    head, *names = ran([sys.executable, os.path.join(TOP, 'examples/names.py'), '--best', path], ran([program, 'intersect', path])).splitlines()
+    front, _, behind = head.split(' for ')[1].rstrip(':').partition(':')
+    return (int(front), int(behind or 0)), [name.removesuffix('.more') for name in names]
+
+
+def is_right(program, folder, numbers):
+    """Whether the script and the program find the best plan of drawn tables."""
+    wishes, limits = drawn(numbers)
+    rows = [{'name': name, 'most': most, 'least': least or ''} for name, (most, least) in limits.items()]
+    description = described(folder, text_of(wishes, numbers), text_of(rows, numbers))
+    plans = (plan for size in range(len(wishes) + 1) for plan in itertools.combinations(wishes, size))
+    wanted = max(weight_of(plan, wishes, limits) for plan in plans if keeps(plan, limits))
+    given, names = best_by_program(program, folder, description)
+    plan = [wish for wish in wishes if f"{wish['person']}.{wish['shift']}".replace(' ', '_') in names]
+    if (wanted, wanted, True, len(names)) == (given, weight_of(plan, wishes, limits), keeps(plan, limits), len(plan)):
+        return True
+    print(f'{wishes} {limits}: {wanted} is best, and not {given} by {names}')
+    return False
+
+
+def main():
+    tables, seed = (int(word) for word in (sys.argv[1:3] + ['100', '1'][len(sys.argv[1:3]):]))
+    program = os.path.abspath(sys.argv[3] if len(sys.argv) > 3 else os.path.join(TOP, 'crates/mat_main/out/mat_main'))
+    numbers = random.Random(seed)
+    with tempfile.TemporaryDirectory() as folder:
+        wrong = sum(not is_right(program, folder, numbers) for _ in range(tables))
+        for old, new, said in SPOILT:
+            note = described(folder, WISHES.replace(old, new), LIMITS.replace(old, new))
+            if said not in note:
+                wrong += 1
+                print(f'{new!r} in place of {old!r}: {note!r} does not say {said!r}')
+    print(f'{tables} tables and {len(SPOILT)} spoilt ones, {wrong} wrong')
+    sys.exit(1 if wrong else 0)
+
+
+if __name__ == '__main__':
+    main()
