@@ -3,11 +3,10 @@
 
 Draws small tables of wishes and limits, with and without the columns day, must, last and least; has the script make a description of each, solves
 it by `intersect`, and compares the weight of the best of all sizes, and that its plan keeps all limits, with what is found by trying all plans.
-Then it spoils a table in each way that the script names, and expects that name. Prints what is wrong and how many tables were tried, and ends
-with 1 where something is. TABLES is 100 and SEED 1 where they are not given; the program is crates/mat_main/out/mat_main where none is named.
+Then it spoils a table in each way of a list, and expects that the script says what is wrong. Prints what is wrong and how many tables were tried,
+and ends with 1 where something is. TABLES is 100 and SEED 1 where they are not given; the program is crates/mat_main/out/mat_main where none is named.
 """
 import collections
-import csv
 import itertools
 import os
 import random
@@ -22,7 +21,8 @@ LIMITS = 'name,most,least\nMon early,2,1\nMon late,1,\nAda,1,\nBen,1,\n'
 #: What is changed in these tables, to what, and a part of what is said of it.
 SPOILT = [('gain', 'Gains', 'here it has person, day, shift, gains'), (',5', ',', 'the wish has no gain'), (',5', ',4.5', "not '4.5'"),
           (',5', ',5,1', 'more cells than the first one'), ('Ben,Mon,Mon late', 'Ada,Mon,Mon early', 'stands twice'),
-          ('Ben,Mon,Mon late', 'Ben,Tue,Mon early', 'stands on two days, Mon and Tue'), ('Ada,Mon', 'Ada,', 'has no day'), ('Ada,Mon', 'Cleo,Mon', "'Cleo': no line of"),
+          ('Ben,Mon,Mon late', 'Ben,Tue,Mon early', 'stands on two days, Mon and Tue'), ('Ada,Mon', 'Ada,', 'has no day'),
+          ('Ada,Mon', 'Cleo,Mon', "'Cleo': no line of"), ('day', 'gain', 'here it has person, gain'), ('day', 'must', "must is yes or no, and not 'Mon'"),
           ('Ada', 'Jörg', 'all of ASCII'), ('Ada', 'A' * 18, 'at most 27'), ('Ben,1,', 'Ada,1,', 'this name stands twice'),
           ('Ben,1,', 'Ben,,', 'has no number'), ('Ben,1,', 'Ben,one,', "not 'one'"), ('Ben,1,', 'Ben,1,1', 'for shifts alone'),
           ('early,2,1', 'early,2,3', 'at least 3 are more than at most 2'), (',5', ',5:1', 'a weight has two numbers')]
@@ -52,11 +52,11 @@ def keeps(plan, limits):
 def weight_of(plan, wishes, limits):
     """What a plan is worth: what is met and the gain, or the gain and what is kept."""
     gain = sum(wish['gain'] for wish in plan)
-    has_demands = any(wish.get('must') == 'yes' or limits[wish['shift']][1] for wish in wishes)
+    has_demands = 'must' in wishes[0] or any(least for _, least in limits.values())
     if has_demands:
         counts = collections.Counter(wish['shift'] for wish in plan)
         return sum(min(counts[name], least) for name, (_, least) in limits.items()) + sum(wish.get('must') == 'yes' for wish in plan), gain
-    if any(wish.get('last') == 'yes' for wish in wishes):
+    if 'last' in wishes[0]:
         return gain, sum(1 if wish['last'] == 'yes' else -1 for wish in plan)
     return gain, 0
 

@@ -1,9 +1,9 @@
 """python3 examples/from_csv.py WISHES.csv LIMITS.csv: a description of wishes with a limit for each shift and each person.
 
 WISHES.csv has the columns person, shift and gain, and a line for each wish. It may have three more: day (nobody works twice on a day), must (the
-wish has to be granted) and last (it was granted last time), of which the last two have a word such as yes, or nothing or no. LIMITS.csv has the
-columns name and most, and a line for each shift and each person; where it has a column least too, a shift needs so many. Both are as
-spreadsheets save them, in UTF-8.
+wish has to be granted: yes or no) and last (it was granted last time: yes or no); an empty cell says no. LIMITS.csv has the columns name and
+most, and a line for each shift and each person; where it has a column least too, a shift needs so many. Both are as spreadsheets save them, in
+UTF-8.
 
 A wish gets the name PERSON.SHIFT, with '_' for a space. One of a shift with a least number below its most stands there twice, the second time as
 PERSON.SHIFT.more. With least or must a weight is A:B, A what has to be met and B the gain; with last it is A:B, A the gain and B 1 or -1.
@@ -16,6 +16,8 @@ import sys
 MOST_ELEMENTS = 500
 NAME_LENGTH = 32
 MORE = ".more"
+YES = ("yes", "y", "x", "true", "1")
+NO = ("", "no", "n", "false", "0")
 
 
 def refuse(what):
@@ -39,7 +41,7 @@ def rows_of(name, needed, further):
     lines = lines_of(name)
     heads, *table = csv.reader(lines, delimiter=";" if lines and ";" in lines[0] else ",") if lines else [[]]
     heads = [head.strip().lower() for head in heads]
-    if not set(needed) <= set(heads) <= {*needed, *further}:
+    if not set(needed) <= set(heads) <= {*needed, *further} or len(set(heads)) < len(heads):
         refuse(f"{name}: the first line has the columns {', '.join(needed)}, and may have {', '.join(further)}; here it has {', '.join(heads)}")
     rows = []
     for cells in ([cell.strip() for cell in cells] for cells in table):
@@ -94,6 +96,9 @@ def refuse_wish(wish, limits, limits_name):
         refuse(f"{wish['person']}: a least number is for shifts alone")
     if wish.get("day") == "":
         refuse(f"{name}: the wish has no day")
+    for column in ("must", "last"):
+        if wish.get(column, "").lower() not in YES + NO:
+            refuse(f"{name}: {column} is yes or no, and not '{wish[column]}'")
 
 
 def refuse_faults(wishes, limits, limits_name):
@@ -117,14 +122,18 @@ def elements_of(wishes, limits):
         found.append({**wish, "name": name_of(wish), "counts": int(least > 0)})
         if 0 < least < most:
             found.append({**wish, "name": name_of(wish) + MORE, "counts": 0})
+    names = [it["name"] for it in found]
+    for name in names:
+        if names.count(name) > 1:
+            refuse(f"{name}: two wishes come to this name: call one of the people or shifts otherwise")
     if len(found) > MOST_ELEMENTS:
         refuse(f"{len(found)} elements are more than {MOST_ELEMENTS} (a wish of a shift with a least number may be two)")
     return found
 
 
 def is_marked(element, column):
-    """Whether a wish has a word in a column, and not one that says no."""
-    return element.get(column, "").lower() not in ("", "no", "0", "false")
+    """Whether a wish has a word in a column that says yes."""
+    return element.get(column, "").lower() in YES
 
 
 def weight_of(element, has_demands, has_last):
@@ -138,10 +147,10 @@ def weight_of(element, has_demands, has_last):
     return gain
 
 
-def weights_of(elements):
+def weights_of(elements, limits):
     """The weights of the elements."""
-    has_demands = any(it["counts"] or is_marked(it, "must") for it in elements)
-    has_last = any(is_marked(it, "last") for it in elements)
+    has_demands = "must" in elements[0] or any(least for _, least in limits.values())
+    has_last = "last" in elements[0]
     if has_demands + has_last + any(":" in it["gain"] for it in elements) > 1:
         refuse("a weight has two numbers: of least and must, of last, and of gains with a ':' only one can be there")
     return [weight_of(it, has_demands, has_last) for it in elements]
@@ -189,7 +198,7 @@ def main():
     wishes, limits = rows_of(sys.argv[1], ("person", "shift", "gain"), ("day", "must", "last")), limits_of(sys.argv[2])
     refuse_faults(wishes, limits, sys.argv[2])
     elements = elements_of(wishes, limits)
-    weights = weights_of(elements)
+    weights = weights_of(elements, limits)
     shifts, people = list(limits_of_shifts(elements, limits)), list(limits_of_people(elements, limits))
     is_nested = "day" in wishes[0] or len(elements) > len(wishes)
     print("matroids 2", f"pair {len(elements)}", sep="\n")

@@ -2,7 +2,7 @@
 # over_parallel.sh RUN HOSTS: does the jobs of RUN/todo by GNU parallel on the hosts of a file. It ends with 0 where all ran and none failed.
 #
 # A line of HOSTS is `:`, which is this machine, or a host as ssh takes it, such as user@host; with `3/` in front three jobs at a time run there,
-# else as many as it has processors, at most 99. A host needs ssh, sh and the C library of the program, which is sent to it once, into the folder
+# else as many as it has processors, on another host at most 99. A host needs ssh, sh and the C library of the program, which is sent to it once, into the folder
 # matbench-many. One that does not answer is left out; a job that fails is tried on another host, three times in all. MANY_SSH names another
 # command than ssh, such as 'ssh -F FILE'.
 set -u

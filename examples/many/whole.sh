@@ -1,5 +1,5 @@
 #!/bin/sh
-# whole.sh FOLDER [parallel|slurm [COUNT SIZE]]: the whole of it, on a fresh machine, with drawn problems.
+# whole.sh FOLDER [parallel|slurm [COUNT SIZE]]: the whole of it, with drawn problems.
 #
 # It installs what is missing from Debian's packages, or says what is missing; draws COUNT problems of SIZE elements (else 40 of 60) into FOLDER;
 # spreads them, by GNU parallel over the hosts of the file that MANY_HOSTS names (else over this machine alone) or by a Slurm of one node that it
