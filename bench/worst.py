@@ -9,11 +9,14 @@ import random
 import sys
 import tempfile
 
-from soak import line
 from table import once, saved
 
 N = 500
 DESCRIPTION_LIMIT, CERTIFICATE_LIMIT = 4194304, 67108864
+
+
+def line(*words):
+    return ' '.join(str(word) for word in words)
 
 
 def weights(numbers, n=N):

@@ -1,4 +1,4 @@
-"""python3 bench/shown.py [PROGRAM]: runs every command that the documents show, and compares every output that they show byte for byte.
+"""python3 tests/shown.py [PROGRAM]: runs every command that the documents show, and compares every output that they show byte for byte.
 
 The documents are README.md, examples/README.md, docs/FORMATS.md, docs/COOKBOOK.md, docs/MANY.md and docs/CALLING.md, and the program is
 crates/mat_main/out/mat_main unless another is named. In the documents

@@ -12,7 +12,8 @@ import sys
 import tempfile
 from xml.parsers import expat
 
-from table import CASES, described, measured, saved
+sys.path.insert(0, os.path.join(os.path.dirname(os.path.dirname(os.path.abspath(__file__))), 'bench'))
+from table import CASES, described, measured, saved  # noqa: E402
 
 
 def with_long_names(program, path, folder):

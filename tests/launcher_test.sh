@@ -3,7 +3,7 @@
 # program, and for df. Nothing is proved, and nothing outside a temporary folder is written. Needs Linux with setsid, flock, script and timeout, and to be
 # started with Ctrl-C not ignored, as it is behind an & of a script: a shell cannot trap what was ignored when it began.
 #
-#     bench/launcher_test.sh [SHELL..]
+#     tests/launcher_test.sh [SHELL..]
 #
 # Each SHELL, "bash --posix", say, runs the launcher; without one, those that are here of dash, bash --posix and busybox sh. Each
 # line tells what was seen; the status is 1 where one of them is wrong.
