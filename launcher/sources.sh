@@ -75,8 +75,9 @@ is_current() {
     [ -x "$program" ] || return 1
     [ -n "$(newer_than "$program")" ] || return 0
     touch "$program.time" 2>/dev/null
-    is_as_noted && touch -r "$program.time" "$program" 2>/dev/null
+    is_as_noted
     confirmed=$?
+    [ "$confirmed" -ne 0 ] || touch -r "$program.time" "$program" 2>/dev/null
     rm -f "$program.time" 2>/dev/null
     return "$confirmed"
 }

@@ -433,6 +433,12 @@ try_release_unreadable() {
     tell "a checkout that cannot be written to: status and answer" "$status $(cat "$work/out")" "3 a released answer to intersect file"
     tell "what it says" "$(cat "$work/err")" "$(told_release "$work/checkout/crates/mat_main/out cannot be written to, so each command unpacks it; ./prove proves it in a copy of this folder")"
     tell "left behind" "$(left_behind) $(find crates/mat_main -name out | wc -l)" "0 processes, 0 folders 0"
+    mkdir -m 755 crates/mat_main/out
+    as='' run intersect file
+    touch crates/mat_laws/src/lib.rt
+    run intersect file
+    tell "its program is in its place, and a source was touched" "$status $(cat "$work/out" "$work/err")" "3 a released answer to intersect file"
+    rm -r crates/mat_main/out
     echo "// More." >>crates/mat_laws/src/lib.rt
     run intersect file
     tell "and with other sources" "$status $(cat "$work/err")" "70 matbench: no program is there that is made of these sources; it cannot be built, since $work/checkout/crates/mat_main/out cannot be written to"
