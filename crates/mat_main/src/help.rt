@@ -144,6 +144,7 @@ status alone):
          or has a space in it
        Repeated, Crossing, NumberRange: in this class or set or in an earlier one the cap may be at
          the end, where it is taken for an element
+       NumberSpelling: the cap may be missing or at the end, so that a name is in its place
     4  bad certificate: likewise; docs/FORMATS.md, What is wrong with a certificate
     5  read fault: a file could not be opened or read: it is not there, is a folder, or may not be
        read. Give the names to the command cat, which says which one it is and why. Each word behind
