@@ -1,12 +1,21 @@
-"""Tests of the Python module: what its answers, exceptions and descriptions are. That its bytes are the program's, answers.py tests."""
+"""Tests of the Python package: what its answers, exceptions and descriptions are.
+
+That its bytes are the program's, answers.py tests.
+"""
+import _ctypes
+import os
 import pathlib
 import pickle
+import re
 import resource
+import shutil
 import subprocess
 import sys
+import tempfile
 import threading
 import traceback
 import unittest
+import unittest.mock
 import xml.etree.ElementTree
 
 HERE = pathlib.Path(__file__).resolve().parent
@@ -22,6 +31,56 @@ except ImportError:
 
 PATH = "matroids 1\ngraph 3 2\nedge 0 1\nedge 1 2\nend\n"
 TOWNS = EXAMPLES / "towns.txt"
+
+
+class Library(unittest.TestCase):
+    """Where the library is looked for, and what is told where it is not there."""
+
+    def told(self, folder=HERE.parent, library=None):
+        """What a first call of the package in a folder raises, by its name and in words."""
+        script = ("import matbench\n"
+                  "try: matbench.version()\n"
+                  "except OSError as error: print(type(error).__name__, error, sep=': ')\n")
+        settings = {key: it for key, it in os.environ.items() if key != "MATBENCH_LIBRARY"}
+        if library:
+            settings["MATBENCH_LIBRARY"] = str(library)
+        done = subprocess.run([sys.executable, "-c", script], cwd=folder, env=settings,
+                              capture_output=True, text=True, check=False)
+        self.assertEqual(done.stderr, "")
+        return done.stdout
+
+    def test_a_missing_library_is_told_with_where_it_may_be(self):
+        with tempfile.TemporaryDirectory() as folder:
+            shutil.copytree(HERE.parent / "matbench", f"{folder}/matbench")
+            told = self.told(folder)
+        self.assertRegex(told, "^NoLibrary: there is no libmatbench.so in ")
+        for word in (f"{folder}/matbench,", f"{folder}/out", "bindings/build.sh", "MATBENCH_LIBRARY"):
+            self.assertIn(word, told)
+
+    def test_a_library_that_is_named_and_missing_is_told(self):
+        told = self.told(library="/nowhere/it.so")
+        self.assertRegex(told, "^NoLibrary: .*MATBENCH_LIBRARY names /nowhere/it.so, and there is no")
+
+    def test_what_is_no_library_of_matbench_is_told(self):
+        told = self.told(library=EXAMPLES / "people.txt")
+        self.assertRegex(told, "^NoLibrary: .*people.txt cannot be loaded: it is for Linux")
+        told = self.told(library=_ctypes.__file__)
+        self.assertRegex(told, "^NoLibrary: .* it has no matbench_call")
+
+    def test_the_library_is_found_beside_the_package_and_in_it(self):
+        for place in ("libmatbench.so", "out/libmatbench.so", "matbench/libmatbench.so"):
+            with self.subTest(place=place), tempfile.TemporaryDirectory() as folder:
+                shutil.copytree(HERE.parent / "matbench", f"{folder}/matbench")
+                os.makedirs(f"{folder}/out")
+                shutil.copy(HERE.parent / "out" / "libmatbench.so", f"{folder}/{place}")
+                self.assertEqual(self.told(folder), "")
+
+    def test_the_version_is_that_of_the_source(self):
+        source = HERE.parent.parent / "crates" / "mat_main" / "src" / "help.rt"
+        wanted = re.search(r'VERSION: &str = "matbench ([0-9.]+)\\n"', source.read_text())[1]
+        self.assertEqual(matbench.__version__, wanted)
+        with self.assertRaises(AttributeError):
+            matbench.__versoin__
 
 
 class Answers(unittest.TestCase):
@@ -218,6 +277,50 @@ class Refusals(unittest.TestCase):
             with self.subTest(job=job), self.assertRaisesRegex(TypeError, "job 1 is no tuple"):
                 matbench.batch([("trees", PATH, 1), job])
 
+    def test_a_job_has_no_line_end_in_its_words(self):
+        people = EXAMPLES / "people.txt"
+        for job in (("intersect f0\njob intersect", people), ("best\n", people), ("", people),
+                    ("trees", PATH, "2 f0\njob trees 1")):
+            with self.subTest(job=job), self.assertRaises(matbench.BadList) as found:
+                matbench.batch([("intersect", people), job])
+            self.assertEqual(found.exception.note, "refused: list line 3")
+            self.assertIn("neither a command nor a count", str(found.exception))
+
+    def test_many_jobs_need_no_more_address_space_than_their_answers(self):
+        script = ("import matbench, pathlib, resource\n"
+                  "resource.setrlimit(resource.RLIMIT_AS, (1 << 30, 1 << 30))\n"
+                  "jobs = [('intersect', pathlib.Path('../examples/people.txt'))] * 32\n"
+                  "print(len(matbench.batch(jobs)))\n")
+        done = subprocess.run([sys.executable, "-c", script], cwd=HERE.parent, capture_output=True,
+                              text=True, check=False)
+        self.assertEqual((done.stdout, done.stderr), ("32\n", ""))
+
+    def test_jobs_whose_answers_need_more_room_than_one_get_it(self):
+        jobs = [("intersect", EXAMPLES / "people.txt")] * 3
+        length = len(matbench.intersect(EXAMPLES / "people.txt").certificate)
+        for room in (length, length + 100):
+            with self.subTest(room=room), unittest.mock.patch("matbench.batches.ROOM", room):
+                self.assertEqual(len(matbench.batch(jobs)), 3)
+        with unittest.mock.patch("matbench.batches.ROOM", length - 1):
+            with self.assertRaises(matbench.WriteFault):
+                matbench.batch(jobs)
+
+    def test_a_file_that_is_too_long_is_not_read_whole(self):
+        script = ("import matbench, pathlib, resource, sys\n"
+                  "resource.setrlimit(resource.RLIMIT_AS, (1 << 29, 1 << 29))\n"
+                  "long, people = map(pathlib.Path, sys.argv[1:])\n"
+                  "for run in (lambda: matbench.show(long), lambda: matbench.check(people, long),\n"
+                  "            lambda: matbench.read_answer(people, long)):\n"
+                  "    try: run()\n"
+                  "    except matbench.TooLong as error: print(error.status, error)\n")
+        with tempfile.NamedTemporaryFile() as file:
+            file.truncate(1 << 30)
+            done = subprocess.run([sys.executable, "-c", script, file.name, EXAMPLES / "people.txt"],
+                                  cwd=HERE.parent, capture_output=True, text=True, check=False)
+        wanted = "".join(f"8 refused: too long: {file.name} has more than {most} bytes\n"
+                         for most in ("4,194,304", "67,108,864", "67,108,864"))
+        self.assertEqual((done.stdout, done.stderr), (wanted, ""))
+
     def test_a_certificate_may_be_a_file_or_bytes(self):
         people = EXAMPLES / "people.txt"
         answer = matbench.intersect(people)
@@ -350,6 +453,63 @@ class Graphs(unittest.TestCase):
         self.assertEqual(matbench.assign(matbench.table_description(graph, "a")).best.members, ())
         self.assertEqual(matbench.rainbow(matbench.coloured_description(graph)).best.members, ())
         self.assertEqual(matbench.arborescence(matbench.rooted_description(graph.to_directed(), "a")).unreached, ("b",))
+
+    def hold_to_sentence(self, sentence, line, run):
+        """A call raises what the program says of a number in a line, with a sentence."""
+        with self.assertRaises(matbench.BadDescription) as found:
+            run()
+        error = found.exception
+        note = f"refused: description 5 NumberRange line {line}"
+        self.assertEqual((error.name, error.line, error.note), ("NumberRange", line, note))
+        self.assertEqual(str(error), f"{note}: {sentence}")
+        self.assertEqual(str(pickle.loads(pickle.dumps(error))), str(error))
+
+    def test_too_many_nodes_or_none_are_told_in_words(self):
+        makers = [(matbench.graph_description, networkx.Graph, 2),
+                  (matbench.coloured_description, networkx.Graph, 2),
+                  (matbench.forests_description, networkx.Graph, 5),
+                  (lambda graph: matbench.rooted_description(graph, 0), networkx.DiGraph, 2)]
+        for make, kind, line in makers:
+            graph = kind()
+            graph.add_nodes_from(range(501))
+            with self.subTest(make=make):
+                sentence = "the graph has 501 nodes, and a description has from 1 to 500"
+                self.hold_to_sentence(sentence, line, lambda: make(graph))
+        for make, kind, line in makers[:3]:
+            with self.subTest(make=make):
+                sentence = "the graph has 0 nodes, and a description has from 1 to 500"
+                self.hold_to_sentence(sentence, line, lambda: make(kind()))
+
+    def test_too_many_edges_rows_and_columns_are_told_in_words(self):
+        graph = networkx.gnm_random_graph(100, 501, seed=1)
+        sentence = "the graph has 501 edges, and a description has from 0 to 500"
+        self.hold_to_sentence(sentence, 2, lambda: matbench.graph_description(graph))
+        self.hold_to_sentence(sentence, 2, lambda: matbench.forests_description(graph))
+        graph = networkx.empty_graph(502)
+        sentence = "the graph has 501 {}, and a description has from 0 to 500"
+        self.hold_to_sentence(sentence.format("rows"), 2,
+                              lambda: matbench.table_description(graph, range(501)))
+        self.hold_to_sentence(sentence.format("columns"), 2,
+                              lambda: matbench.table_description(graph, [0]))
+
+    def test_500_of_each_fit(self):
+        graph = networkx.gnm_random_graph(500, 500, seed=1)
+        self.assertIn("graph 500 500\n", matbench.show(matbench.graph_description(graph)))
+        self.assertIn("list 500 1\n", matbench.show(matbench.forests_description(graph)))
+
+    def test_an_attribute_that_no_edge_has_is_refused(self):
+        graph = networkx.Graph([("a", "b"), ("b", "c")])
+        for edge in graph.edges:
+            graph.edges[edge].update(weight=5, colour="red")
+        for run in (lambda: matbench.forests_description(graph, "wieght"),
+                    lambda: matbench.coloured_description(graph, weight="wieght"),
+                    lambda: matbench.table_description(graph, "b", "wieght"),
+                    lambda: matbench.rooted_description(graph.to_directed(), "a", "wieght")):
+            with self.assertRaisesRegex(ValueError, "no edge has the attribute 'wieght'"):
+                run()
+        graph.edges["a", "b"]["gain"] = 7
+        best = matbench.best(matbench.forests_description(graph, "gain")).best
+        self.assertEqual(best.weight, 8)
 
     def test_what_does_not_fit_is_refused(self):
         graph = networkx.Graph()
