@@ -180,6 +180,15 @@ build_shared_library() {
     "$work/ld.lld" -shared -soname libmatbench.so.1 --strip-all --gc-sections --build-id=none -z defs -z noexecstack -z relro -z now \
         -o "$out/libmatbench.so.1" "$work/matbench.o" "$kit/toolchain/lib/libgcc.a" "$work"/stubs/*
     ln -s libmatbench.so.1 "$out/libmatbench.so"
+    hold_to_glibc 2.5
+}
+
+# Fails where the shared library asks for names of the C library that came after this version of glibc: hold_to_glibc VERSION.
+hold_to_glibc() {
+    asked=$("$work/llvm-nm" -D --undefined-only "$out/libmatbench.so.1" | sed -n 's/.*@GLIBC_//p' | sort -u)
+    [ -n "$asked" ] || fail "libmatbench.so.1 names no version of glibc"
+    newest=$(printf '%s\n' "$asked" "$1" | sort -V | tail -n 1)
+    [ "$newest" = "$1" ] || fail "libmatbench.so.1 asks for names of glibc $newest, which came after $1"
 }
 
 # The static library: one object file that shows matbench_line alone, with the kit's functions of the heap, which call the C library's.
