@@ -9,6 +9,7 @@ bindings=$(dirname -- "$(readlink -f -- "$0")")
 top=$(dirname -- "$bindings")
 out=$bindings/out
 guide=$(rt doc) || { echo "build.sh: there is no command rt, which the kit has" >&2; exit 70; }
+command -v python3 >/dev/null || { echo "build.sh: there is no command python3" >&2; exit 70; }
 kit=$(dirname -- "$guide")
 work=$(mktemp -d -p "${TMPDIR:-/var/tmp}")
 trap 'rm -rf "$work"' EXIT

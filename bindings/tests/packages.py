@@ -20,6 +20,8 @@ BINDINGS = documents.BINDINGS
 OUT = BINDINGS / "out"
 PEOPLE = documents.TOP / "examples" / "people.txt"
 SOURCE = documents.TOP / "crates" / "mat_main" / "src" / "help.rt"
+#: The number in the name of the shared library, which a change that breaks its callers raises.
+NUMBER = 1
 #: What is printed by an installed package: its version by both ways, and an answer.
 SCRIPT = """
 import importlib.metadata, pathlib, sys, matbench
@@ -51,7 +53,7 @@ def only(pattern):
     """The one file of out/ of this form."""
     found = list(OUT.glob(pattern))
     if len(found) != 1:
-        sys.exit(f"packages.py: there is not one {pattern} in {OUT}: bindings/pack.py makes it")
+        raise AssertionError(f"there is not one {pattern} in {OUT}: bindings/pack.py makes it")
     return found[0]
 
 
@@ -162,6 +164,19 @@ class Archive(Temporary):
         self.assertEqual(self.place.name, f"matbench-c-{version()}")
 
 
+class Shared(Temporary):
+    """The shared library, which a program is linked to when it starts."""
+
+    def test_a_program_is_linked_to_the_name_with_a_version(self):
+        document = documents.TOP / "docs" / "BINDINGS.md"
+        program, wanted = next((program, wanted) for _, program, wanted
+                               in documents.examples(document, ("c",)) if "matbench.h" in program)
+        flags = [f"-I{OUT}", f"-L{OUT}", "-lmatbench", f"-Wl,-rpath,{OUT}"]
+        self.assertEqual(documents.printed_by_c(program, self.folder, flags), wanted)
+        needed = re.findall(r"NEEDED +(\S+)", run("objdump", "-p", str(self.folder / "example")))
+        self.assertIn(f"libmatbench.so.{NUMBER}", needed)
+
+
 class Bytes(Temporary):
     """What is packed of the same inputs is the same, in any folder."""
 
@@ -202,5 +217,15 @@ class Bytes(Temporary):
                 (self.folder / "out" / name).write_bytes(kept)
 
 
-if __name__ == "__main__":
+def main():
+    """Runs the tests, if the packages are made."""
+    try:
+        only("matbench-*.whl")
+        only("matbench-c-*.tar.xz")
+    except AssertionError as error:
+        sys.exit(f"packages.py: {error}")
     unittest.main()
+
+
+if __name__ == "__main__":
+    main()
