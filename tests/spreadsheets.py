@@ -3,8 +3,8 @@
 
 Draws small tables of wishes and limits, with and without the columns day, must, last and least; has the script make a description of each, solves
 it by `intersect`, and compares the weight of the best of all sizes, and that its plan keeps all limits, with what is found by trying all plans.
-Then it spoils a table in each way of a list, and expects that the script says what is wrong. Prints what is wrong and how many tables were tried,
-and ends with 1 where something is. TABLES is 100 and SEED 1 where they are not given; the program is crates/mat_main/out/mat_main where none is named.
+Then it spoils a table in each way of a list, and expects that the script says what is wrong. Prints what is wrong and how many tables were tried.
+The last line is `N passed, M failed`, which counts tables; the status is 1 if one failed. TABLES is 100 and SEED 1 where they are not given; the program is crates/mat_main/out/mat_main where none is named.
 """
 import collections
 import itertools
@@ -110,6 +110,8 @@ def is_right(program, folder, numbers):
 def main():
     tables, seed = (int(word) for word in (sys.argv[1:3] + ['100', '1'][len(sys.argv[1:3]):]))
     program = os.path.abspath(sys.argv[3] if len(sys.argv) > 3 else os.path.join(TOP, 'crates/mat_main/out/mat_main'))
+    if not os.access(program, os.X_OK):
+        sys.exit(f'spreadsheets.py: {program}: there is no such program; ./matbench --version builds it')
     numbers = random.Random(seed)
     with tempfile.TemporaryDirectory() as folder:
         wrong = sum(not is_right(program, folder, numbers) for _ in range(tables))
@@ -119,6 +121,7 @@ def main():
                 wrong += 1
                 print(f'{new!r} in place of {old!r}: {note!r} does not say {said!r}')
     print(f'{tables} tables and {len(SPOILT)} spoilt ones, {wrong} wrong')
+    print(f'{tables + len(SPOILT) - wrong} passed, {wrong} failed')
     sys.exit(1 if wrong else 0)
 
 
