@@ -10,11 +10,12 @@ crates/mat_main/out/mat_main unless another is named. In the documents
 - a block marked `sh` is not run;
 - './matbench ..' within a line is run and ends with 0, but where it names no file of its own, as in './matbench show FILE';
 - a row of a table that begins with the number of a line tells that line of a file in the heading above;
-- a link within the repository leads to a file, and to a heading where it names one.
+- a link within the repository leads to a file, and to a heading where it names one; of all other documents, the links alone are followed.
 The text of --help is compared with the one that the launcher prints where nothing is built. Commands run in a new folder that has the
 program as `matbench` beside the folders of the repository, and which stands for /tmp too. What is wrong is printed; the last line is
 `N passed, M failed`, and counts commands, quotes, lines of files and links.
 """
+import glob
 import os
 import re
 import shutil
@@ -185,6 +186,15 @@ def try_document(folder, name):
     try_links(name, prose)
 
 
+def try_links_of_others():
+    """Follows the links of the documents of which nothing else is tried."""
+    for path in sorted(glob.glob(os.path.join(TOP, "*.md")) + glob.glob(os.path.join(TOP, "*", "*.md"))):
+        name = os.path.relpath(path, TOP)
+        if name not in DOCUMENTS:
+            with open(path, encoding="utf-8") as file:
+                try_links(name, blocks_of(file.read())[0])
+
+
 def try_help(folder):
     """Compares the text of --help with the one of the launcher where nothing is built."""
     bare = os.path.join(folder, "bare")
@@ -211,6 +221,7 @@ def main():
     try:
         for name in DOCUMENTS:
             try_document(folder, name)
+        try_links_of_others()
         try_help(folder)
     finally:
         shutil.rmtree(folder)

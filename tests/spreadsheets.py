@@ -12,6 +12,7 @@ import collections
 import itertools
 import os
 import random
+import re
 import subprocess
 import sys
 import tempfile
@@ -102,13 +103,16 @@ def text_of(rows, numbers):
 
 
 def best_by_program(program, folder, description):
-    """The weight of the best of all sizes, and its wishes as PERSON.SHIFT."""
+    """The weight of the best of all sizes, and its wishes as PERSON.SHIFT; or what is printed if that is no plan."""
     path = os.path.join(folder, 'description.txt')
     with open(path, 'w', encoding='ascii') as file:
         file.write(description)
-    head, *names = ran([sys.executable, os.path.join(TOP, 'examples/names.py'), '--best', path], ran([program, 'intersect', path])).splitlines()
-    front, _, behind = head.split(' for ')[1].rstrip(':').partition(':')
-    return (int(front), int(behind or 0)), [name.removesuffix('.more') for name in names]
+    printed = ran([sys.executable, os.path.join(TOP, 'examples/names.py'), '--best', path], ran([program, 'intersect', path]))
+    head, *names = printed.splitlines() or ['']
+    told = re.fullmatch('[0-9]+ for (-?[0-9]+)(?::(-?[0-9]+))?:', head)
+    if not told:
+        return printed, []
+    return (int(told[1]), int(told[2] or 0)), [name.removesuffix('.more') for name in names]
 
 
 def is_right(program, folder, numbers):
