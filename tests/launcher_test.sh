@@ -1,6 +1,6 @@
 #!/bin/sh
-# Tries the launcher on a small checkout, with stand-ins for rt, which sleeps, writes the lines that the launcher reads and makes a
-# program, and for df. Nothing is proved, and nothing outside a temporary folder is written. Needs Linux with setsid, flock, script and timeout, and to be
+# Tries ./matbench and ./prove on a small checkout, with stand-ins for rt, which sleeps, writes the lines that the launcher reads and makes a
+# program, for df, and for the released program. Nothing is proved, and nothing outside a temporary folder is written. Needs Linux with setsid, flock, script and timeout, and to be
 # started with Ctrl-C not ignored, as it is behind an & of a script: a shell cannot trap what was ignored when it began.
 #
 #     tests/launcher_test.sh [SHELL..]
@@ -9,7 +9,7 @@
 # line tells what was seen; the status is 1 where one of them is wrong.
 set -u
 top=$(dirname -- "$(dirname -- "$(readlink -f -- "$0")")")
-work=$(mktemp -d) || exit 1
+work=$(mktemp -d) && chmod 755 "$work" || exit 1
 trap 'rm -rf "$work"' EXIT
 trap 'exit 1' HUP INT TERM
 wrongs=0
@@ -56,7 +56,7 @@ prove() {
         touch "$kept/$1-$sum"
         printf '== %s\nfn %s::f: proved\nrt: %s proved\n' "$1" "$1" "$1"
     fi
-    [ "$1" != mat_main ] || { printf '#!/bin/sh\necho "an answer to $*"\nexit 3\n' >crates/mat_main/out/mat_main && chmod 755 crates/mat_main/out/mat_main; }
+    [ "$1" != mat_main ] || { cp "$kit/program" crates/mat_main/out/mat_main; }
     touch "crates/$1/out/proved"
 }
 while IFS=: read -r name uses; do
@@ -75,8 +75,28 @@ if grep -q FAILS crates/mat_main/src/lib.rt; then
 fi
 [ ! -e failed ] && echo "$(grep -c . crates.txt) passed, 0 failed" || { echo "rt: FAILED: some"; echo "0 passed, 1 failed"; exit 1; }
 END
+    # shellcheck disable=SC2016
     printf '#!/bin/sh\necho "Filesystem 1048576-blocks Used Available Capacity Mounted on"\necho "disk 90000 85000 ${STAND_IN_FREE:-5000} 95%% /"\n' >"$work/kit/bin/df"
-    chmod 755 "$work/kit/bin/rt" "$work/kit/bin/df"
+    make_program "an answer" >"$work/kit/program"
+    chmod 755 "$work/kit/bin/rt" "$work/kit/bin/df" "$work/kit/program"
+}
+
+# Prints a stand-in for the program, which answers with these words and the status 3.
+make_program() {
+    printf '#!/bin/sh\n[ "$*" != --version ] || exit 0\necho "%s to $*"\nexit 3\n' "$1"
+}
+
+# The checksum of the sources of the checkout, of each name and each byte.
+sum_of_checkout() {
+    { printf '%s\n' HANDLES crates.txt; find crates -type f | grep -E '^crates/[^/]*/(src|specs|proofs)/'; } | LC_ALL=C sort | xargs sha256sum | sha256sum | cut -c 1-64
+}
+
+# Puts a program of these words into release/, as that of the sources as they are now.
+make_release() {
+    mkdir -p release
+    make_program "$1" >"$work/released"
+    gzip -nc "$work/released" >release/matbench-x86_64-linux.gz
+    printf 'sources %s\nprogram %s\n' "$(sum_of_checkout)" "$(sha256sum <"$work/released" | cut -c 1-64)" >release/CONTENTS
 }
 
 # Makes a checkout of the launcher and seven small crates, nothing of which is built or kept.
@@ -84,7 +104,7 @@ make_checkout() {
     rm -rf "$work/checkout" "$work/kit/proved" "$work/kit/calls" "$work/tmp" "$work/rattle-kept" "$work"/err* "$work"/out*
     mkdir -p "$work/checkout/docs" "$work/tmp" "$work/rattle-kept"
     ln -sfn tmp "$work/link"
-    cp "$top/matbench" "$work/checkout/"
+    cp -R "$top/matbench" "$top/prove" "$top/launcher" "$work/checkout/"
     cd "$work/checkout" || exit 1
     printf '# Lowest first.\nmat_sets:\nmat_work tests_may=Threads:\nmat_laws: mat_sets\nmat_words: mat_sets thiserror\nmat_top: mat_laws mat_words mat_work\n' >crates.txt
     printf 'mat_main: mat_top\nmat_trials: mat_top\n' >>crates.txt
@@ -109,11 +129,18 @@ make_checkout() {
 END
 }
 
-# Runs the launcher with its words, and keeps what it wrote and its status.
+# Runs the launcher, or the script that `script` names, with its words, and keeps what it wrote and its status.
 run() {
     # shellcheck disable=SC2086
-    PATH=$work/kit/bin:$PATH TMPDIR=$work/link STAND_IN_SECONDS=${pause:-0.2} timeout 60 $shell "$work/checkout/matbench" "$@" \
+    PATH=$work/kit/bin:$PATH TMPDIR=$work/link STAND_IN_SECONDS=${pause:-0.2} timeout 60 ${as:-} $shell "$work/checkout/${script:-matbench}" "$@" \
         >"$work/out" 2>"$work/err" </dev/null
+    status=$?
+}
+
+# The same with no tool on the search path.
+run_without_tool() {
+    # shellcheck disable=SC2086
+    PATH=/usr/bin:/bin TMPDIR=$work/link timeout 60 $shell "$work/checkout/${script:-matbench}" "$@" >"$work/out" 2>"$work/err" </dev/null
     status=$?
 }
 
@@ -123,7 +150,7 @@ start() {
     shift
     rm -f "$work/out$number" "$work/err$number"
     # shellcheck disable=SC2086
-    PATH=$work/kit/bin:$PATH TMPDIR=$work/link STAND_IN_SECONDS=${pause:-0.2} $shell "$work/checkout/matbench" "$@" \
+    PATH=$work/kit/bin:$PATH TMPDIR=$work/link STAND_IN_SECONDS=${pause:-0.2} $shell "$work/checkout/${script:-matbench}" "$@" \
         >"$work/out$number" 2>"$work/err$number" </dev/null &
 }
 
@@ -169,18 +196,20 @@ try_first_build() {
     tell "once more: status, answer, and not a word beside" "$status $(cat "$work/out" "$work/err")" "3 $answer"
     mkdir -p "$work/bin" && ln -sf "$work/checkout/matbench" "$work/bin/matbench"
     tell "by a link on the path" "$(cd / && "$work/bin/matbench" intersect file)" "$answer"
-    touch "$work/checkout/crates/mat_trials/proofs"
+    touch "$work/checkout/crates/mat_laws/src/lib.rt"
     run intersect file
-    tell "a folder changed: built again from what is kept" "$status $(cat "$work/out") $(proved)" "3 $answer mat_laws mat_main mat_sets mat_top mat_words mat_work "
+    tell "a source is touched, and not changed: not built again" "$status $(cat "$work/out" "$work/err") $(grep -c . "$work/kit/calls")" "3 $answer 2"
+    echo "// More." >"$work/checkout/crates/mat_trials/proofs/More"
+    run intersect file
+    tell "a source more: built again from what is kept" "$status $(cat "$work/out") $(proved)" "3 $answer mat_laws mat_main mat_sets mat_top mat_words mat_work "
 }
 
 try_without_tool() {
     make_checkout
-    PATH=/usr/bin:/bin run --help
+    run_without_tool --help
     tell "the help without a program" "$status $(cat "$work/out")" "0 The help."
-    # shellcheck disable=SC2086
-    seen=$(PATH=/usr/bin:/bin $shell "$work/checkout/matbench" --version 2>&1 </dev/null)
-    tell "no tool on the path" "$? $seen" "70 matbench: the program is missing, or older than a source; building it needs rt, which is not on the search path: see README.md, Install"
+    run_without_tool --version
+    tell "no tool on the path" "$status $(cat "$work/out" "$work/err")" "70 matbench: no program is there that is made of these sources; building it needs rt, which is not on the search path: see README.md, Install"
 }
 
 try_lacking() {
@@ -188,10 +217,10 @@ try_lacking() {
     mkdir -p "$work/few" && ln -sf /usr/bin/* "$work/few/" && rm "$work/few/flock"
     # shellcheck disable=SC2086
     seen=$(PATH=$work/kit/bin:$work/few $shell "$work/checkout/matbench" --version 2>&1 </dev/null)
-    tell "no flock on the path" "$? $seen" "70 matbench: the program is missing, or older than a source; building it needs flock, which is not on the search path: see README.md, Install"
+    tell "no flock on the path" "$? $seen" "70 matbench: no program is there that is made of these sources; building it needs flock, which is not on the search path: see README.md, Install"
     touch "$work/checkout/crates/mat_main/out"
     run --version
-    tell "out/ cannot be written" "$status $(cat "$work/err")" "70 matbench: the program is missing, or older than a source; it cannot be built, since $work/checkout/crates/mat_main/out cannot be written to"
+    tell "out/ cannot be written" "$status $(cat "$work/err")" "70 matbench: no program is there that is made of these sources; it cannot be built, since $work/checkout/crates/mat_main/out cannot be written to"
     rm "$work/checkout/crates/mat_main/out"
     STAND_IN_DOC=$work/nowhere/kit/START-HERE.md
     export STAND_IN_DOC
@@ -278,7 +307,7 @@ try_two_at_once() {
     tell "two at once: the first" "$? $(cat "$work/out1")" "3 $answer"
     wait "$second"
     tell "the second" "$? $(cat "$work/out2")" "3 $answer"
-    tell "what the second says" "$(cat "$work/err2")" "matbench: another ./matbench is building the program in this checkout; waiting for it"
+    tell "what the second says" "$(cat "$work/err2")" "matbench: another ./matbench or ./prove is building the program in this checkout; waiting for it"
     tell "each crate is proved once" "$(proved)" "mat_laws mat_main mat_sets mat_top mat_words mat_work "
     make_checkout
     pause=1.5 start 1 intersect file
@@ -298,21 +327,183 @@ try_change() {
     pause=1.5 start 1 intersect file
     launcher=$!
     wait_for "$work/kit/proved" mat_sets
-    touch "$work/checkout/crates/mat_words/src/lib.rt"
+    echo "// More." >>"$work/checkout/crates/mat_words/src/lib.rt"
     wait "$launcher"
-    tell "a source is touched during the build: status and answer" "$? $(cat "$work/out1")" "70 "
+    tell "a source is changed during the build: status and answer" "$? $(cat "$work/out1")" "70 "
     tell "what it says last" "$(tail -n 1 "$work/err1")" "matbench: a source changed during the build; run the command again"
     tell "left behind" "$(left_behind)" "0 processes, 0 folders"
     run intersect file
     tell "started again" "$status $(cat "$work/out")" "3 $answer"
-    touch "$work/checkout/crates.txt"
+    echo "# More." >>"$work/checkout/crates.txt"
     pause=0.5 start 1 intersect file
     launcher=$!
     wait_for "$work/err1" "of 6 crates proved"
     touch "$work/mark"
     wait "$launcher"
-    tell "a source touched after it: built again" "$? $(grep -c 'the program is built' "$work/err1")" "3 1"
+    tell "a source changed after it: built again" "$? $(grep -c 'the program is built' "$work/err1")" "3 1"
     tell "the program has the time at which the build began" "$(find "$work/checkout/crates/mat_main/out/mat_main" -newer "$work/mark" | wc -l)" 0
+    echo "# Less." >>"$work/checkout/crates.txt"
+    pause=0.5 start 1 intersect file
+    launcher=$!
+    wait_for "$work/err1" "of 6 crates proved"
+    touch "$work/checkout/crates.txt"
+    wait "$launcher"
+    tell "a source is touched during the build, and not changed: built" "$? $(cat "$work/out1")" "3 $answer"
+    cp -p "$work/checkout/crates/mat_words/src/lib.rt" "$work/older"
+    sed -i 's/The crate/The other crate/' "$work/checkout/crates/mat_words/src/lib.rt"
+    run intersect file
+    calls=$(grep -c . "$work/kit/calls")
+    cp -p "$work/older" "$work/checkout/crates/mat_words/src/lib.rt"
+    run intersect file
+    tell "a source is replaced by one with an older time: built again" "$status $(($(grep -c . "$work/kit/calls") - calls))" "3 2"
+}
+
+# What the launcher says when it has unpacked the released program.
+told_release() {
+    printf 'matbench: this is the released program, proved elsewhere from exactly these sources (release/PROVENANCE.md)\nmatbench: %s\n' "$1"
+}
+
+try_release() {
+    make_checkout
+    make_release "a released answer"
+    run_without_tool intersect file
+    tell "a release of these sources: status and answer" "$status $(cat "$work/out")" "3 a released answer to intersect file"
+    tell "what it says, in two lines" "$(cat "$work/err")" "$(told_release "./prove proves it here")"
+    run intersect file
+    tell "once more: not a word beside" "$status $(cat "$work/out" "$work/err")" "3 a released answer to intersect file"
+    tell "nothing was proved" "$(proved)$(find "$work/checkout/crates/mat_main/out" -name '*new*' -o -name '*time*')" ""
+    touch crates/mat_laws/src/lib.rt
+    run intersect file
+    tell "a source is touched, and not changed: the same" "$status $(cat "$work/out" "$work/err")" "3 a released answer to intersect file"
+    echo "// A comment." >>crates/mat_laws/src/lib.rt
+    run intersect file
+    tell "a source is changed by a comment: it builds" "$status $(cat "$work/out") $(grep -c 'the program is built' "$work/err")" "3 $answer 1"
+    sed -i '/A comment/d' crates/mat_laws/src/lib.rt
+    run intersect file
+    tell "changed back: the released program" "$status $(cat "$work/out")" "3 a released answer to intersect file"
+    mv crates/mat_trials/src/lib.rt crates/mat_trials/src/moved.rt
+    run intersect file
+    tell "a source has another name: it builds" "$status $(cat "$work/out")" "3 $answer"
+    run --help
+    tell "the help of the program that is built" "$status $(cat "$work/out")" "3 an answer to --help"
+}
+
+# Tries a checkout whose release cannot be used: it builds, and says why where the release is at fault.
+try_release_at_fault() {
+    make_checkout
+    make_release "a released answer"
+    head -c 60 release/matbench-x86_64-linux.gz >"$work/cut" && cp "$work/cut" release/matbench-x86_64-linux.gz
+    run intersect file
+    tell "a release that is cut off: it builds" "$status $(cat "$work/out")" "3 $answer"
+    tell "it says so" "$(grep -c 'the released program is damaged .*; it is proved and built here' "$work/err")" 1
+    make_checkout
+    make_release "a released answer"
+    make_program "a changed answer" | gzip -nc >release/matbench-x86_64-linux.gz
+    run intersect file
+    tell "a release with another program: it builds" "$status $(cat "$work/out")" "3 $answer"
+    make_checkout
+    make_release "a released answer"
+    sed -i 's/^sources ./sources x/' release/CONTENTS
+    run intersect file
+    tell "a release with another checksum: it builds" "$status $(cat "$work/out") $(grep -c released "$work/err")" "3 $answer 0"
+    make_checkout
+    make_release "a released answer"
+    rm release/CONTENTS
+    run intersect file
+    tell "a release that does not say what it is made of: it builds" "$status $(cat "$work/out")" "3 $answer"
+    make_checkout
+    make_release "a released answer"
+    printf '#!/bin/sh\nexit 1\n' >"$work/released" && gzip -nc "$work/released" >release/matbench-x86_64-linux.gz
+    sed -i "s/^program .*/program $(sha256sum <"$work/released" | cut -c 1-64)/" release/CONTENTS
+    run_without_tool intersect file
+    tell "a release that does not run here, and no tool" "$status $(cat "$work/err")" "70 matbench: the released program does not run here: it needs Linux on x86-64 with glibc 2.34 or later; building it needs rt, which is not on the search path: see README.md, Install"
+    run_without_tool --help
+    tell "the help without a program" "$status $(cat "$work/out")" "0 The help."
+}
+
+# Tries what only somebody else than root is kept from, as nobody where root runs this.
+try_release_unreadable() {
+    make_checkout
+    make_release "a released answer"
+    chmod 777 "$work/rattle-kept" "$work/tmp"
+    as=
+    [ "$(id -u)" -ne 0 ] || as="setpriv --reuid=nobody --regid=nogroup --clear-groups"
+    chmod 555 crates/mat_main
+    run intersect file
+    tell "a checkout that cannot be written to: status and answer" "$status $(cat "$work/out")" "3 a released answer to intersect file"
+    tell "what it says" "$(cat "$work/err")" "$(told_release "$work/checkout/crates/mat_main/out cannot be written to, so each command unpacks it; ./prove proves it in a copy of this folder")"
+    tell "left behind" "$(left_behind) $(find crates/mat_main -name out | wc -l)" "0 processes, 0 folders 0"
+    mkdir -m 755 crates/mat_main/out
+    as='' run intersect file
+    touch crates/mat_laws/src/lib.rt
+    run intersect file
+    tell "its program is in its place, and a source was touched" "$status $(cat "$work/out" "$work/err")" "3 a released answer to intersect file"
+    rm -r crates/mat_main/out
+    echo "// More." >>crates/mat_laws/src/lib.rt
+    run intersect file
+    tell "and with other sources" "$status $(cat "$work/err")" "70 matbench: no program is there that is made of these sources; it cannot be built, since $work/checkout/crates/mat_main/out cannot be written to"
+    sed -i '/More/d' crates/mat_laws/src/lib.rt
+    mkdir -m 777 crates/mat_main/out
+    chmod 000 release/matbench-x86_64-linux.gz
+    run intersect file
+    tell "a release that cannot be read: it builds" "$status $(cat "$work/out")" "3 $answer"
+    chmod -R u+w crates/mat_main
+    as=
+}
+
+try_release_at_once() {
+    make_checkout
+    make_release "a released answer"
+    start 1 intersect file
+    first=$!
+    start 2 intersect file
+    second=$!
+    wait "$first"
+    tell "a release and two at once: the first" "$? $(cat "$work/out1")" "3 a released answer to intersect file"
+    wait "$second"
+    tell "the second" "$? $(cat "$work/out2")" "3 a released answer to intersect file"
+    tell "what both say" "$(cat "$work/err1" "$work/err2")" "$(told_release "./prove proves it here")"
+    run --other
+    script=prove pause=1.5 start 3
+    prover=$!
+    wait_for "$work/err3" "0 of 6 crates proved"
+    run intersect file
+    tell "while it is proved, the released program answers" "$status $(cat "$work/out" "$work/err")" "3 a released answer to intersect file"
+    wait "$prover"
+    tell "what was proved is not the released program" "$? $(tail -n 1 "$work/err3")" "1 matbench: it is NOT the released program, though release/ says that this is made of the same sources"
+}
+
+try_prove() {
+    make_checkout
+    make_release "an answer"
+    run intersect file
+    script=prove run
+    tell "proved, and the released program: status and no output" "$status $(cat "$work/out")" "0 "
+    tell "what it says last" "$(tail -n 2 "$work/err" | tr '\n' '/')" "matbench: the program is built/matbench: it is the released program, byte for byte: what release/ has is proved here/"
+    tell "its crates" "$(proved)" "mat_laws mat_main mat_sets mat_top mat_words mat_work "
+    tell "the program in its place is noted as proved" "$(tail -n 1 crates/mat_main/out/mat_main.origin)" "by proof"
+    printf x >>release/matbench-x86_64-linux.gz
+    script=prove run
+    tell "a byte more in the release" "$status $(tail -n 1 "$work/err")" "1 matbench: it is NOT the released program, though release/ says that this is made of the same sources"
+    make_release "an answer"
+    echo "// More." >>crates/mat_laws/src/lib.rt
+    script=prove run
+    tell "the same program of other sources" "$status $(tail -n 1 "$work/err")" "0 matbench: it is the released program, byte for byte: what release/ has is proved here"
+    make_program "another answer" | gzip -nc >release/matbench-x86_64-linux.gz
+    script=prove run
+    tell "another program of other sources" "$status $(tail -n 1 "$work/err")" "1 matbench: it is not the released program, which is made of other sources"
+    rm release/matbench-x86_64-linux.gz
+    script=prove run
+    tell "no release" "$status $(tail -n 1 "$work/err")" "1 matbench: there is no released program to compare it with ($work/checkout/release/matbench-x86_64-linux.gz)"
+    run intersect file
+    tell "the answer of what was proved" "$status $(cat "$work/out" "$work/err")" "3 $answer"
+    echo "// WRONG" >>crates/mat_laws/src/lib.rt
+    script=prove run
+    tell "a crate that is not proved" "$status $(tail -n 2 "$work/err" | head -n 1)" "70 matbench: the program could not be built"
+    script=prove run --help
+    tell "words" "$status $(grep -c '0: it is; 1: it is proved' "$work/err")" "2 1"
+    script=prove run_without_tool
+    tell "no tool on the path" "$status $(cat "$work/err")" "70 matbench: the program is to be proved here; building it needs rt, which is not on the search path: see README.md, Install"
 }
 
 # Runs a launcher on a terminal, and keeps what it writes there. What comes on standard input is typed.
@@ -348,6 +539,11 @@ try_shell() {
     try_two_at_once
     try_change
     try_terminal
+    try_release
+    try_release_at_fault
+    try_release_unreadable
+    try_release_at_once
+    try_prove
 }
 
 make_stand_in

@@ -211,7 +211,7 @@ def main():
     """Tries each document with the program."""
     program = os.path.abspath(sys.argv[1] if len(sys.argv) > 1 else os.path.join(TOP, "crates/mat_main/out/mat_main"))
     if not os.access(program, os.X_OK):
-        sys.exit(f"shown.py: {program}: there is no such program; ./matbench --version builds it")
+        sys.exit(f"shown.py: {program}: there is no such program; ./matbench --version puts it there")
     folder = tempfile.mkdtemp(prefix="shown")
     os.symlink(program, os.path.join(folder, "matbench"))
     # The scripts of examples/many/ take this program then.

@@ -182,7 +182,7 @@ def main():
     signal.signal(signal.SIGPIPE, signal.SIG_DFL)
     word, rest = sys.argv[1] if len(sys.argv) > 1 else "", sys.argv[2:]
     if not os.access(PROGRAM, os.X_OK):
-        sys.exit(f"jobs.py: {PROGRAM}: there is no such program; ./matbench --version builds it")
+        sys.exit(f"jobs.py: {PROGRAM}: there is no such program; ./matbench --version puts it there")
     if word == "lay" and len(rest) == 2:
         lay(jobs_of(rest[0]), rest[1])
     elif word == "take" and len(rest) == 2:

@@ -80,7 +80,9 @@ of printable ASCII, 32 to 126. Elements and vertices are counted from 0.
                                    or A:B, two such numbers, of which B breaks ties and is not 0
     partition Q                    the first matroid: Q classes, at most 500 ..
     class CAP E E ..               .. each with at most CAP of its elements in a set; no element in
-                                   two classes, and one in no class has no limit
+                                   two classes, and one in no class has no limit. The first number
+                                   is always the cap: if you leave it out, or write it at the end,
+                                   the first element is taken for it, and often no note says so
     uniform CAP                    the second matroid: sets of at most CAP elements (or a partition
                                    again)
     end
@@ -129,19 +131,31 @@ status alone):
        or colours), with two numbers that say where; or the witness does not show the rung: its
        first part that fails, from 1 to 4. docs/FORMATS.md, What is wrong with an answer. Where the
        description was changed since, the answer is of another problem: solve again
-    2  usage: no command, an unknown one, another number of words, or a number out of range
+    2  usage: no command, an unknown one, another number of words, or a number out of range. Compare
+       the words with those above: K and RUNG come before FILE, --workers W right behind the
+       command, and a name with a space in it needs quotation marks
     3  bad description: its first fault, by number and name, and the line; docs/FORMATS.md, What is
-       wrong with a description
+       wrong with a description, says how to find the cause. It may be in another line:
+       UnknownWord: the line is a comment or misspelt; or an earlier line has a wrong number of
+         lines; or a line or a matroid is missing, as the second one of a pair
+       TooManyWords: a name has a space in it, or a comment is behind the words; or N in line 2 is
+         too small
+       UnknownName: a word of the line is no name of the line elements, or vertices: it is misspelt,
+         or has a space in it
+       Repeated, Crossing, NumberRange: in this class or set or in an earlier one the cap may be at
+         the end, where it is taken for an element
+       NumberSpelling: the cap may be missing or at the end, so that a name is in its place
     4  bad certificate: likewise; docs/FORMATS.md, What is wrong with a certificate
     5  read fault: a file could not be opened or read: it is not there, is a folder, or may not be
-       read
+       read. Give the names to the command cat, which says which one it is and why. Each word behind
+       the command may be taken for a name, as in intersect --help
     6  write fault: the answer could not be written whole
     7  memory: there was not enough
     8  too long: a description or a list of more than 4194304 bytes, or a certificate or a witness
        of more than 67108864
     9  wrong shape: the form of the problem is not the command's (above), or not that of the
        certificate's command; or for witness and verify the certificate is none of intersect, or has
-       no rung of this number
+       no rung of this number. Line 2 of FILE has the form, and line 2 of CERT the command
    11  unwitnessed: a matroid is not uniform, partition, laminar, graphic, gammoid or gf2
    12  bad witness: its first fault, by number and name, and the line; docs/FORMATS.md, Witnesses
    13  bad cost: for cuts a cost is below 0 or has a tie
