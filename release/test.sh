@@ -134,7 +134,7 @@ case $#:${1:-} in
     *) usage ;;
 esac
 if [ ! -f "$program" ] || [ ! -x "$program" ]; then
-    echo "test.sh: $program: there is no such program; ./matbench --version builds it" >&2
+    echo "test.sh: $program: there is no such program; ./matbench --version puts it there" >&2
     exit 70
 fi
 cd "$top" || exit 70

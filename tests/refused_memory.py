@@ -141,7 +141,7 @@ def is_right(program, library, folder, case):
 def main():
     program = os.path.abspath(sys.argv[1] if len(sys.argv) > 1 else 'crates/mat_main/out/mat_main')
     if not os.access(program, os.X_OK):
-        sys.exit(f'refused_memory.py: {program}: there is no such program; ./matbench --version builds it')
+        sys.exit(f'refused_memory.py: {program}: there is no such program; ./matbench --version puts it there')
     if not shutil.which('cc'):
         sys.exit('refused_memory.py: there is no C compiler cc')
     with tempfile.TemporaryDirectory() as folder:

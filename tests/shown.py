@@ -200,6 +200,7 @@ def try_help(folder):
     bare = os.path.join(folder, "bare")
     os.makedirs(os.path.join(bare, "crates/mat_main/src"))
     shutil.copy(os.path.join(TOP, "matbench"), bare)
+    shutil.copytree(os.path.join(TOP, "launcher"), os.path.join(bare, "launcher"))
     shutil.copy(os.path.join(TOP, "crates/mat_main/src/help.rt"), os.path.join(bare, "crates/mat_main/src"))
     printed, status = run(folder, "./bare/matbench --help")
     if status != 0 or max(map(len, printed.splitlines()), default=0) > 100:

@@ -254,7 +254,7 @@ def main():
         sys.exit('usage: soak.py SECONDS SEED [PROGRAM], or soak.py --problems COUNT SEED [PROGRAM]')
     program = rest[0] if rest else 'crates/mat_main/out/mat_main'
     if not os.access(program, os.X_OK):
-        sys.exit(f'soak.py: {program}: there is no such program; ./matbench --version builds it')
+        sys.exit(f'soak.py: {program}: there is no such program; ./matbench --version puts it there')
     numbers, began, done = random.Random(seed), time.monotonic(), 0
     soak = Soak(program, tempfile.mkdtemp(), *((AN_HOUR, AN_HOUR) if by_count else (SECONDS, LONGEST)))
     while (done if by_count else time.monotonic() - began) < limit:

@@ -167,7 +167,7 @@ def main():
     tables, seed = (int(word) for word in (sys.argv[1:3] + ['100', '1'][len(sys.argv[1:3]):]))
     program = os.path.abspath(sys.argv[3] if len(sys.argv) > 3 else os.path.join(TOP, 'crates/mat_main/out/mat_main'))
     if not os.access(program, os.X_OK):
-        sys.exit(f'spreadsheets.py: {program}: there is no such program; ./matbench --version builds it')
+        sys.exit(f'spreadsheets.py: {program}: there is no such program; ./matbench --version puts it there')
     numbers = random.Random(seed)
     with tempfile.TemporaryDirectory() as folder:
         wrong = sum(not is_right(program, folder, numbers) for _ in range(tables))

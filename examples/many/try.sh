@@ -12,7 +12,7 @@ given=$#
 folder=${1:-$(mktemp -d)}
 mkdir -p "$folder" && folder=$(cd "$folder" && pwd) || exit 71
 program=${MATBENCH:-$top/crates/mat_main/out/mat_main}
-[ -x "$program" ] || { echo "try.sh: $program: there is no such program; ./matbench --version builds it" >&2; exit 70; }
+[ -x "$program" ] || { echo "try.sh: $program: there is no such program; ./matbench --version puts it there" >&2; exit 70; }
 # Then no script builds the program of this checkout.
 export MATBENCH="$program"
 steps=0 wrong=0
