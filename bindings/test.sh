@@ -78,6 +78,18 @@ try_browser() {
     fi
 }
 
+# Tries the wheel and the archive for C, if bindings/pack.py made both.
+try_packages() {
+    what="the wheel and the archive for C"
+    if ! ls "$out"/matbench-*.whl "$out"/matbench-c-*.tar.xz >/dev/null 2>&1; then
+        cannot "$what" "they are not there; bindings/pack.py makes them"
+    elif ! command -v cc >/dev/null; then
+        cannot "$what" "there is no C compiler cc"
+    else
+        try "$what" python3 "$bindings/tests/packages.py"
+    fi
+}
+
 [ -x "$program" ] || { echo "test.sh: $program is not built" >&2; exit 70; }
 command -v python3 >/dev/null || { echo "test.sh: there is no python3" >&2; exit 70; }
 make_caller call libmatbench
@@ -92,9 +104,7 @@ fi
 if is_built "the programs of docs/BINDINGS.md" libmatbench.a && is_built "the programs of docs/BINDINGS.md" libmatbench_line.a; then
     try "the programs of docs/BINDINGS.md" python3 "$bindings/tests/documents.py"
 fi
-if [ -e "$bindings/tests/packages.py" ]; then
-    try "the wheel and the archive for C" python3 "$bindings/tests/packages.py"
-fi
+try_packages
 [ -n "$chromium" ] || cannot "the page in Chromium" "there is no ${CHROMIUM:-chromium}"
 [ -n "$firefox" ] || cannot "the page in Firefox" "there is no ${FIREFOX:-firefox}"
 for browser in ${chromium:+"$chromium"} ${firefox:+"$firefox"}; do try_browser "$browser"; done

@@ -87,7 +87,7 @@ run_quick() {
 
 # Runs shellcheck over each shell script of the repository.
 check_scripts() {
-    git ls-files -z | xargs -0 grep -lZE '^#!/bin/(sh|bash)' | xargs -0 shellcheck
+    git ls-files -z | xargs -0 grep -lZE '^#!/bin/(sh|bash)' | xargs -0 shellcheck -x
 }
 
 # The reports, which GNU time measures.

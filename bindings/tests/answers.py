@@ -148,7 +148,11 @@ def shown(compared, what, files):
     for word, function in (("--tell", matbench.tell), ("--picture", matbench.picture)):
         words = [word, "f", "c"]
         wanted = compared.call(words, files)
-        compared.hold(f"Python {word}", what, (0, wanted[1], b""), (wanted[0], function(files["f"], files["c"]).encode(), wanted[2]))
+        try:
+            given = function(files["f"], files["c"]).encode()
+        except matbench.MatbenchError as refusal:
+            given = repr(refusal)
+        compared.hold(f"Python {word}", what, (0, wanted[1], b""), (wanted[0], given, wanted[2]))
         yield words, files, wanted
 
 
