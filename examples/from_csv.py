@@ -2,22 +2,25 @@
 
 WISHES.csv has the columns person, shift and gain, and a line for each wish. It may have three more: day (nobody works twice on a day), must (the
 wish has to be granted: yes or no) and last (it was granted last time: yes or no); an empty cell says no. LIMITS.csv has the columns name and
-most, and a line for each shift and each person; where it has a column least too, a shift needs so many. Both are as spreadsheets save them, in
-UTF-8.
+most, and a line for each shift and each person; where it has a column least too, a shift needs so many. Both are as spreadsheets save them
+(spreadsheet.py). Yes and no may be said in German, French, Italian and Spanish too, and as TRUE and FALSE.
 
 A wish gets the name PERSON.SHIFT, with '_' for a space. One of a shift with a least number below its most stands there twice, the second time as
 PERSON.SHIFT.more. With least or must a weight is A:B, A what has to be met and B the gain; with last it is A:B, A the gain and B 1 or -1.
 """
-import csv
+import collections
 import re
 import signal
 import sys
 
+import spreadsheet
+
 MOST_ELEMENTS = 500
+LARGEST_GAIN = 10**12
 NAME_LENGTH = 32
 MORE = ".more"
-YES = ("yes", "y", "x", "true", "1")
-NO = ("", "no", "n", "false", "0")
+YES = ("yes", "y", "x", "true", "1", "ja", "wahr", "oui", "vrai", "si", "sì", "sí", "vero", "verdadero")
+NO = ("", "no", "n", "false", "0", "nein", "falsch", "non", "faux", "falso")
 
 
 def refuse(what):
@@ -25,30 +28,18 @@ def refuse(what):
     sys.exit(f"from_csv.py: {what}")
 
 
-def lines_of(name):
-    """The lines of a file."""
-    try:
-        with open(name, encoding="utf-8-sig", newline="") as file:
-            return file.read().splitlines()
-    except OSError as error:
-        return refuse(f"{name}: {error.strerror}")
-    except UnicodeDecodeError:
-        return refuse(f"{name}: this is no text in UTF-8: save it as CSV in UTF-8")
-
-
 def rows_of(name, needed, further):
     """The lines of a spreadsheet that are not empty, with their cells by columns, of which some are needed and some may be there."""
-    lines = lines_of(name)
-    heads, *table = csv.reader(lines, delimiter=";" if lines and ";" in lines[0] else ",") if lines else [[]]
-    heads = [head.strip().lower() for head in heads]
+    try:
+        heads, table = spreadsheet.table_of(name)
+    except spreadsheet.Fault as fault:
+        return refuse(fault)
     if not set(needed) <= set(heads) <= {*needed, *further} or len(set(heads)) < len(heads):
         refuse(f"{name}: the first line has the columns {', '.join(needed)}, and may have {', '.join(further)}; here it has {', '.join(heads)}")
-    rows = []
-    for cells in ([cell.strip() for cell in cells] for cells in table):
+    for cells in table:
         if len(cells) > len(heads):
             refuse(f"{name}: the line {','.join(cells)} has more cells than the first one")
-        if any(cells):
-            rows.append(dict(zip(heads, cells + [""] * (len(heads) - len(cells)))))
+    rows = [dict(zip(heads, cells + [""] * (len(heads) - len(cells)))) for cells in table]
     return rows or refuse(f"{name}: no line stands behind the first one")
 
 
@@ -57,7 +48,8 @@ def count_of(row, column):
     word = row.get(column) or "0"
     if not re.fullmatch("[0-9]+", word):
         refuse(f"{row['name']}: {column} is a whole number from 0, and not '{word}'")
-    return min(int(word), MOST_ELEMENTS)
+    word = word.lstrip("0") or "0"
+    return min(int(word), MOST_ELEMENTS) if len(word) <= len(str(MOST_ELEMENTS)) else MOST_ELEMENTS
 
 
 def limits_of(name):
@@ -79,6 +71,11 @@ def name_of(wish):
     return f"{wish['person']}.{wish['shift']}".replace(" ", "_")
 
 
+def is_in_range(number):
+    """Whether a number of a gain is one that a description may have. It may have more digits than int() takes."""
+    return len(number) <= len(str(-LARGEST_GAIN)) and abs(int(number)) <= LARGEST_GAIN
+
+
 def refuse_wish(wish, limits, limits_name):
     """Ends where a wish has no good name or gain, or lacks a limit or a day."""
     name = name_of(wish)
@@ -92,6 +89,8 @@ def refuse_wish(wish, limits, limits_name):
         refuse(f"{name}: the wish has no gain")
     if not re.fullmatch("(0|-?[1-9][0-9]*)(:-?[1-9][0-9]*)?", wish["gain"]):
         refuse(f"{name}: a gain is a whole number, and not '{wish['gain']}': measure all gains in a smaller unit, such as tenths or cents")
+    if not all(is_in_range(number) for number in wish["gain"].split(":")):
+        refuse(f"{name}: a gain is from -10^12 to 10^12: measure all gains in a larger unit, such as thousands")
     if limits[wish["person"]][1]:
         refuse(f"{wish['person']}: a least number is for shifts alone")
     if wish.get("day") == "":
@@ -122,9 +121,8 @@ def elements_of(wishes, limits):
         found.append({**wish, "name": name_of(wish), "counts": int(least > 0)})
         if 0 < least < most:
             found.append({**wish, "name": name_of(wish) + MORE, "counts": 0})
-    names = [it["name"] for it in found]
-    for name in names:
-        if names.count(name) > 1:
+    for name, count in collections.Counter(it["name"] for it in found).items():
+        if count > 1:
             refuse(f"{name}: two wishes come to this name: call one of the people or shifts otherwise")
     if len(found) > MOST_ELEMENTS:
         refuse(f"{len(found)} elements are more than {MOST_ELEMENTS} (a wish of a shift with a least number may be two)")

@@ -93,8 +93,19 @@ def print_all(elements, vertices, arcs, answer):
             label = ""
 
 
+def description_of(name):
+    """The lines of a description."""
+    try:
+        with open(name, encoding="ascii") as file:
+            return file.read().splitlines()
+    except OSError as error:
+        return sys.exit(f"names.py: {name}: {error.strerror}")
+    except UnicodeDecodeError:
+        return sys.exit(f"names.py: {name}: this is no description: it has signs that are none of ASCII")
+
+
 def main():
-    """Prints what the words of the call ask for."""
+    """Reads the description and the answer."""
     parser = argparse.ArgumentParser(description="the sets of an answer on standard input, in the names of its description")
     shown = parser.add_mutually_exclusive_group()
     shown.add_argument("--best", action="store_true", help="the rung of the greatest weight alone")
@@ -104,12 +115,19 @@ def main():
     words = parser.parse_args()
     if words.most is not None and (words.most < 0 or not words.best):
         parser.error("--most takes a size from 0, and stands beside --best")
-    with open(words.file, encoding="ascii") as file:
-        lines = file.read().splitlines()
+    lines = description_of(words.file)
     if lines[:1] != ["matroids 2"]:
         sys.exit("names.py: the description has no names; ./matbench convert FILE writes it with names")
+    answer = sys.stdin.buffer.read().decode("ascii", "replace").splitlines()
+    try:
+        print_asked(words, lines, answer)
+    except (IndexError, KeyError, ValueError):
+        sys.exit("names.py: what stands on standard input is no whole answer")
+
+
+def print_asked(words, lines, answer):
+    """Prints of an answer to the description with these lines what the words of the call ask for."""
     elements, vertices = names_behind("elements", lines), names_behind("vertices", lines)
-    answer = sys.stdin.read().splitlines()
     count = next((line.split()[2] for line in answer if line.startswith("answer ")), None)
     if count is None:
         sys.exit("names.py: there is no answer on standard input")

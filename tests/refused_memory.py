@@ -4,10 +4,12 @@
 For a case of each command the program is run with nothing refused, which has to end with the status 0, and then with its first allocation
 refused, with its second, and so on for as many as it makes. Each of these has to end with the status 7, with the note of want of memory and
 nothing on standard output; or as if none were refused, where that allocation is not needed (room that is given back, or a thread in whose place
-its starter works). Prints for each case how many allocations there are and how many of them are not needed, and ends with 1 at the first run that
-ends otherwise. The program is crates/mat_main/out/mat_main where none is named.
+its starter works). Prints for each case how many allocations there are and how many of them are not needed, or the first run that ends otherwise.
+The last line is `N passed, M failed`, which counts cases; the status is 1 if one failed. The program is crates/mat_main/out/mat_main if none is
+named.
 """
 import os
+import shutil
 import subprocess
 import sys
 import tempfile
@@ -50,6 +52,8 @@ int posix_memalign(void **to, size_t alignment, size_t size) {
 }
 '''
 
+# After how many seconds a run is killed.
+LONGEST = 120
 ASSIGNMENT = ('matroids 1\npair 4\nweights 5 4 4 1\npartition 2\nclass 1 0 1\nclass 1 2 3\npartition 2\nclass 1 0 2\nclass 1 1 3\nend\n')
 CERTIFICATE = ('certificate 1\nanswer intersect 4 2\nrung 0 0\nset\nfirst 5 4 4 1\nsecond 0 0 0 0\nrung 1 5\nset 0\nfirst 5 4 4 1\n'
                'second 0 0 0 0\nrung 2 8\nset 1 2\nfirst 4 4 3 1\nsecond 1 0 1 0\ncut\nend\n')
@@ -86,11 +90,18 @@ CASES = ['show gammoid.txt', 'show named.txt', 'convert named.txt', 'convert nam
          'pack five.txt', 'cover five.txt', 'disjoint 2 two_trees.txt', 'disjoint 2 one_tree.txt']
 
 
+class Wrong(Exception):
+    """What is wrong with a case."""
+
+
 def ended(program, library, folder, words, number):
     """The status of a run, its output and its notes, where the allocation with this number is refused, and whether there was one."""
     reached = os.path.join(folder, 'reached')
     environment = dict(os.environ, LD_PRELOAD=library, REFUSED=str(number), REACHED=reached)
-    run = subprocess.run([program] + words, cwd=folder, env=environment, capture_output=True, timeout=120)
+    try:
+        run = subprocess.run([program] + words, cwd=folder, env=environment, capture_output=True, timeout=LONGEST, check=False)
+    except subprocess.TimeoutExpired as fault:
+        raise Wrong(f'with allocation {number} refused: not ended after {LONGEST} s') from fault
     found = os.path.exists(reached)
     if found:
         os.remove(reached)
@@ -101,7 +112,7 @@ def allocations(program, library, folder, words):
     """How many allocations a case makes, and how many of them are not needed: each is refused in turn."""
     whole, _ = ended(program, library, folder, words, 0)
     if whole[0] != 0:
-        raise SystemExit(f'{" ".join(words)}: with nothing refused: {whole}')
+        raise Wrong(f'with nothing refused: {whole}')
     number = needless = 0
     while True:
         number += 1
@@ -111,11 +122,28 @@ def allocations(program, library, folder, words):
         if end == whole:
             needless += 1
         elif end != (7, b'', b'refused: memory\n'):
-            raise SystemExit(f'{" ".join(words)}: with allocation {number} refused: {end}')
+            raise Wrong(f'with allocation {number} refused: {end}')
+
+
+def is_right(program, library, folder, case):
+    """Tells of a case, and whether each run of it ended as it has to. A case without an allocation would test nothing."""
+    try:
+        total, needless = allocations(program, library, folder, case.split())
+        if total == 0:
+            raise Wrong('no allocation was seen')
+    except Wrong as wrong:
+        print(f'{case}: {wrong}', flush=True)
+        return False
+    print(f'{case}: {total}, of which {needless} are not needed', flush=True)
+    return True
 
 
 def main():
     program = os.path.abspath(sys.argv[1] if len(sys.argv) > 1 else 'crates/mat_main/out/mat_main')
+    if not os.access(program, os.X_OK):
+        sys.exit(f'refused_memory.py: {program}: there is no such program; ./matbench --version puts it there')
+    if not shutil.which('cc'):
+        sys.exit('refused_memory.py: there is no C compiler cc')
     with tempfile.TemporaryDirectory() as folder:
         source, library = os.path.join(folder, 'refusing.c'), os.path.join(folder, 'refusing.so')
         with open(source, 'w') as to:
@@ -126,10 +154,10 @@ def main():
                 to.write(text)
         for name, words in MADE.items():
             with open(os.path.join(folder, name), 'wb') as to:
-                subprocess.run([program] + words.split(), cwd=folder, stdout=to, check=True)
-        for case in CASES:
-            total, needless = allocations(program, library, folder, case.split())
-            print(f'{case}: {total}, of which {needless} are not needed', flush=True)
+                subprocess.run([program] + words.split(), cwd=folder, stdout=to, check=False)
+        failed = sum(not is_right(program, library, folder, case) for case in CASES)
+    print(f'{len(CASES) - failed} passed, {failed} failed')
+    sys.exit(1 if failed else 0)
 
 
 if __name__ == '__main__':

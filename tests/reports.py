@@ -4,7 +4,8 @@
 For each case of `table.py` and each command with an answer that is checked, with names of 32 bytes for the elements and the vertices, the table
 has the seconds and the peak memory in MB of `check`, of `--tell` and of `--picture`, and the bytes of both texts. Each text has to stay below
 the bound of docs/FORMATS.md; each line of words has at most 96 bytes, but for one of a single word; each picture has to be read by an XML parser
-(expat). What is not so is printed, and the last line counts. The program is crates/mat_main/out/mat_main where none is named.
+(expat). What is not so is printed. The last line is `N passed, M failed`, which counts answers; the status is 1 if one failed. The program is
+crates/mat_main/out/mat_main if none is named. It needs GNU `time` (/usr/bin/time).
 """
 import os
 import re
@@ -48,29 +49,37 @@ def faults(told, drawn, n):
             + [f'a line of {len(line)} bytes: {line}' for line in wide[:1]] + ['no XML'] * (not is_xml(drawn)))
 
 
+def is_right(program, name, command, n, folder):
+    """Prints the row of a case, and what is wrong with its texts; whether nothing is."""
+    try:
+        path = with_long_names(program, described(name, n, folder), folder)
+        answer = saved(folder, 'answer', measured(program, command + [path])[0])
+        runs = [measured(program, words + [path, answer]) for words in (['check'], ['--tell'], ['--picture'])]
+    except SystemExit as fault:
+        print(f'{name} {" ".join(command)}: {fault}')
+        return False
+    cells = [f'{seconds:.2f} ({memory:.0f})' for _, seconds, memory in runs]
+    told, drawn = runs[1][0], runs[2][0]
+    print('|', ' | '.join([name, ' '.join(command), *cells, f'{len(told):,}', f'{len(drawn):,}']), '|', flush=True)
+    found = faults(told, drawn, n)
+    print(*(f'{name} {" ".join(command)}: {fault}\n' for fault in found), sep='', end='')
+    return not found
+
+
 def main():
     words = sys.argv[1:]
     n = int(words.pop(0)) if words and words[0].isdigit() else 500
     program = words[0] if words else 'crates/mat_main/out/mat_main'
-    wrong = tried = 0
+    for needed in (program, '/usr/bin/time'):
+        if not os.access(needed, os.X_OK):
+            sys.exit(f'reports.py: {needed}: there is no such program')
     print('| case | command | `check`: seconds (MB) | `--tell` | `--picture` | bytes in words | bytes of the picture |')
     print('|---|---|---|---|---|---|---|')
     with tempfile.TemporaryDirectory() as folder:
-        for name, command in CASES:
-            if command[0] == 'cuts':
-                continue
-            path = with_long_names(program, described(name, n, folder), folder)
-            answer = saved(folder, 'answer', measured(program, command + [path])[0])
-            runs = [measured(program, words + [path, answer]) for words in (['check'], ['--tell'], ['--picture'])]
-            cells = [f'{seconds:.2f} ({memory:.0f})' for _, seconds, memory in runs]
-            told, drawn = runs[1][0], runs[2][0]
-            print('|', ' | '.join([name, ' '.join(command), *cells, f'{len(told):,}', f'{len(drawn):,}']), '|', flush=True)
-            tried += 1
-            for fault in faults(told, drawn, n):
-                wrong += 1
-                print(f'{name} {" ".join(command)}: {fault}')
-    print(f'{tried} answers, {wrong} wrong')
-    sys.exit(min(wrong, 1))
+        told = [case for case in CASES if case[1][0] != 'cuts']
+        passed = sum(is_right(program, name, command, n, folder) for name, command in told)
+    print(f'{passed} passed, {len(told) - passed} failed')
+    sys.exit(0 if passed == len(told) else 1)
 
 
 if __name__ == '__main__':

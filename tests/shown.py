@@ -10,10 +10,12 @@ crates/mat_main/out/mat_main unless another is named. In the documents
 - a block marked `sh` is not run;
 - './matbench ..' within a line is run and ends with 0, but where it names no file of its own, as in './matbench show FILE';
 - a row of a table that begins with the number of a line tells that line of a file in the heading above;
-- a link within the repository leads to a file, and to a heading where it names one.
+- a link within the repository leads to a file, and to a heading where it names one; of all other documents, the links alone are followed.
 The text of --help is compared with the one that the launcher prints where nothing is built. Commands run in a new folder that has the
-program as `matbench` beside the folders of the repository, and which stands for /tmp too. What is wrong is printed; the last line counts.
+program as `matbench` beside the folders of the repository, and which stands for /tmp too. What is wrong is printed; the last line is
+`N passed, M failed`, and counts commands, quotes, lines of files and links.
 """
+import glob
 import os
 import re
 import shutil
@@ -25,6 +27,8 @@ TOP = os.path.dirname(os.path.dirname(os.path.abspath(__file__)))
 DOCUMENTS = ("README.md", "examples/README.md", "docs/FORMATS.md", "docs/COOKBOOK.md", "docs/MANY.md", "docs/CALLING.md")
 OPEN_WORD = re.compile(r"(?<![\w.])(?:FILE|CERT|WIT|LIST|RUNG|KIND|SIZE|SEED|K|W)(?!\w)")
 COUNTS = {"commands": 0, "outputs": 0, "blocks not run": 0, "quotes": 0, "lines of files": 0, "links": 0, "wrong": 0}
+TESTS = ("commands", "quotes", "lines of files", "links")
+LONGEST = 120
 
 
 def wrong(place, what, wanted="", given=""):
@@ -39,19 +43,20 @@ def wrong(place, what, wanted="", given=""):
 def run(folder, command, given=""):
     """What a command prints, to standard output and standard error in their order, and its status."""
     COUNTS["commands"] += 1
-    done = subprocess.run(["sh", "-c", command.replace("/tmp/", folder + "/")], cwd=folder, input=given.encode(),
-                          stdout=subprocess.PIPE, stderr=subprocess.STDOUT, timeout=120, check=False)
-    return done.stdout.decode(), done.returncode
+    try:
+        done = subprocess.run(["sh", "-c", command.replace("/tmp/", folder + "/")], cwd=folder, input=given.encode(),
+                              stdout=subprocess.PIPE, stderr=subprocess.STDOUT, timeout=LONGEST, check=False)
+    except subprocess.TimeoutExpired:
+        return "", f"no status after {LONGEST} s"
+    return done.stdout.decode("utf-8", "replace"), done.returncode
 
 
 def compare(folder, place, command, wanted, given=""):
     """Runs a command that has to print the wanted text and to end with 0."""
     COUNTS["outputs"] += 1
     printed, status = run(folder, command, given)
-    if status != 0:
-        wrong(place, f"{command} ends with {status}")
-    if printed != wanted:
-        wrong(place, command, wanted, printed)
+    if (printed, status) != (wanted, 0):
+        wrong(place, command if status == 0 else f"{command} ends with {status}", wanted, printed)
 
 
 def blocks_of(text):
@@ -93,6 +98,7 @@ def try_quote(place, name, text):
         rest = "\n" + rest
         if not found:
             wrong(place, f"not in {name}", part)
+            return
 
 
 def try_block(folder, place, mark, comment, lines):
@@ -113,6 +119,7 @@ def try_block(folder, place, mark, comment, lines):
         if status != 0:
             wrong(place, f"the list ends with {status}")
     else:
+        COUNTS["quotes"] += 1
         wrong(place, "a block that is not told by its mark, a comment or its first word")
     if comment.startswith("<!-- saved as: "):
         with open(os.path.join(folder, comment[len("<!-- saved as: "):-len(" -->")]), "w", encoding="ascii") as file:
@@ -179,11 +186,21 @@ def try_document(folder, name):
     try_links(name, prose)
 
 
+def try_links_of_others():
+    """Follows the links of the documents of which nothing else is tried."""
+    for path in sorted(glob.glob(os.path.join(TOP, "*.md")) + glob.glob(os.path.join(TOP, "*", "*.md"))):
+        name = os.path.relpath(path, TOP)
+        if name not in DOCUMENTS:
+            with open(path, encoding="utf-8") as file:
+                try_links(name, blocks_of(file.read())[0])
+
+
 def try_help(folder):
     """Compares the text of --help with the one of the launcher where nothing is built."""
     bare = os.path.join(folder, "bare")
     os.makedirs(os.path.join(bare, "crates/mat_main/src"))
     shutil.copy(os.path.join(TOP, "matbench"), bare)
+    shutil.copytree(os.path.join(TOP, "launcher"), os.path.join(bare, "launcher"))
     shutil.copy(os.path.join(TOP, "crates/mat_main/src/help.rt"), os.path.join(bare, "crates/mat_main/src"))
     printed, status = run(folder, "./bare/matbench --help")
     if status != 0 or max(map(len, printed.splitlines()), default=0) > 100:
@@ -205,10 +222,12 @@ def main():
     try:
         for name in DOCUMENTS:
             try_document(folder, name)
+        try_links_of_others()
         try_help(folder)
     finally:
         shutil.rmtree(folder)
     print(", ".join(f"{number} {what}" for what, number in COUNTS.items()))
+    print(f"{sum(COUNTS[what] for what in TESTS) - COUNTS['wrong']} passed, {COUNTS['wrong']} failed")
     sys.exit(1 if COUNTS["wrong"] else 0)
 
 

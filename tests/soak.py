@@ -1,12 +1,13 @@
 #!/usr/bin/env python3
-"""Runs random problems for some time: `soak.py SECONDS SEED [PROGRAM]`, at the top of the repository.
+"""Runs random problems: `soak.py SECONDS SEED [PROGRAM]` or `soak.py --problems COUNT SEED [PROGRAM]`, at the top of the repository.
 
 Problems of every form, with matroids of every kind within one another, are solved by every command that takes them, with one and with four
 workers; `check` has to say yes to each answer, and both answers have to be the same bytes. Commands for other forms have to end with
 the status of a wrong shape. Where both matroids are of kinds that have witnesses, `verify` has to say yes to the witness of each rung. Then bytes,
 words and lines of the texts are changed, and `show`, `check` and `verify` have to end with a status and a note that they can have. It ends with 1
-and keeps the files at the first run that ends otherwise or takes more than ten seconds; one that has not ended after sixty is killed. Else it
-prints how many runs of each command ended with each status. The program is crates/mat_main/out/mat_main where none is named.
+and keeps the files at the first run that ends otherwise, takes more than ten seconds, or has not ended after sixty, when it is killed. With
+--problems it runs so many problems, however long they take; only a run that has not ended after an hour fails. It prints how many runs of each
+command ended with each status, and last `N passed, M failed`, which counts runs. The program is crates/mat_main/out/mat_main if none is named.
 """
 import collections
 import os
@@ -26,7 +27,7 @@ NOTES = {0: '', 1: f'no {WORD} [0-9]+ [0-9]+\n', 2: 'refused: usage\n', 3: f'ref
          4: f'refused: certificate [0-9]+ {WORD} line [0-9]+\n', 9: 'refused: wrong shape\n', 11: 'refused: unwitnessed\n',
          12: f'refused: witness [0-9]+ {WORD} line [0-9]+\n', 13: 'refused: bad cost\n',
          14: 'refused: list line [0-9]+\n'}
-SECONDS, LONGEST = 10, 60
+SECONDS, LONGEST, AN_HOUR = 10, 60, 3600
 
 
 def weight(numbers):
@@ -153,10 +154,11 @@ def changed(numbers, text):
 
 
 class Soak:
-    """The program, the folder of its files, and what its runs ended with."""
+    """The program, the folder of its files, what its runs ended with, and after how many seconds a run is too long, and killed."""
 
-    def __init__(self, program, folder):
+    def __init__(self, program, folder, seconds, longest):
         self.program, self.folder, self.ends = os.path.abspath(program), folder, collections.Counter()
+        self.seconds, self.longest = seconds, longest
 
     def write(self, name, text):
         with open(os.path.join(self.folder, name), 'wb') as to:
@@ -166,20 +168,28 @@ class Soak:
         """The output of a run that has to end with one of these statuses."""
         begin = time.monotonic()
         try:
-            run = subprocess.run([self.program] + words.split(), cwd=self.folder, capture_output=True, timeout=LONGEST)
+            run = subprocess.run([self.program] + words.split(), cwd=self.folder, capture_output=True, timeout=self.longest)
         except subprocess.TimeoutExpired:
-            self.fail(f'{words}: not ended after {LONGEST} s')
+            self.fail(f'{words}: not ended after {self.longest} s')
         took = time.monotonic() - begin
         note = run.stderr.decode('latin1')
         self.ends[words.split()[0], run.returncode] += 1
-        if run.returncode not in statuses or not re.fullmatch(NOTES.get(run.returncode, ''), note) or (run.returncode and run.stdout) or took > SECONDS:
+        has_output = bool(run.returncode and run.stdout)
+        if run.returncode not in statuses or not re.fullmatch(NOTES.get(run.returncode, ''), note) or has_output or took > self.seconds:
             self.fail(f'{words}: status {run.returncode}, note {note!r}, {took:.1f} s')
         return run.stdout
 
     def fail(self, what):
         """Ends with 1, and says of what and where the files are."""
         print(f'{what}; the files are in {self.folder}')
-        raise SystemExit(1)
+        self.finish(1)
+
+    def finish(self, failed):
+        """Prints how the runs ended, and ends."""
+        for (command, status), count in sorted(self.ends.items()):
+            print(f'{command}: status {status}: {count}')
+        print(f'{max(0, sum(self.ends.values()) - failed)} passed, {failed} failed')
+        raise SystemExit(failed)
 
     def expect(self, what, holds):
         if not holds:
@@ -236,15 +246,22 @@ class Soak:
 
 
 def main():
-    seconds, seed = float(sys.argv[1]), int(sys.argv[2])
-    program = sys.argv[3] if len(sys.argv) > 3 else 'crates/mat_main/out/mat_main'
-    numbers, end = random.Random(seed), time.monotonic() + seconds
-    soak = Soak(program, tempfile.mkdtemp())
-    while time.monotonic() < end:
+    words = sys.argv[1:]
+    by_count = words[:1] == ['--problems']
+    try:
+        limit, seed, *rest = float(words[by_count]), int(words[by_count + 1]), *words[by_count + 2:]
+    except (IndexError, ValueError):
+        sys.exit('usage: soak.py SECONDS SEED [PROGRAM], or soak.py --problems COUNT SEED [PROGRAM]')
+    program = rest[0] if rest else 'crates/mat_main/out/mat_main'
+    if not os.access(program, os.X_OK):
+        sys.exit(f'soak.py: {program}: there is no such program; ./matbench --version puts it there')
+    numbers, began, done = random.Random(seed), time.monotonic(), 0
+    soak = Soak(program, tempfile.mkdtemp(), *((AN_HOUR, AN_HOUR) if by_count else (SECONDS, LONGEST)))
+    while (done if by_count else time.monotonic() - began) < limit:
         soak.problem(numbers)
+        done += 1
     shutil.rmtree(soak.folder)
-    for (command, status), count in sorted(soak.ends.items()):
-        print(f'{command}: status {status}: {count}')
+    soak.finish(0)
 
 
 if __name__ == '__main__':

@@ -3,13 +3,16 @@
 
 Draws small tables of wishes and limits, with and without the columns day, must, last and least; has the script make a description of each, solves
 it by `intersect`, and compares the weight of the best of all sizes, and that its plan keeps all limits, with what is found by trying all plans.
-Then it spoils a table in each way of a list, and expects that the script says what is wrong. Prints what is wrong and how many tables were tried,
-and ends with 1 where something is. TABLES is 100 and SEED 1 where they are not given; the program is crates/mat_main/out/mat_main where none is named.
+Then it spoils a table in each way of a list, and expects that the script says what is wrong; saves it in other ways, which have to give the same
+description; and has both_ways.py and names.py read files that are none of theirs. What is wrong is printed. The last line is
+`N passed, M failed`, and the status is 1 if something failed. TABLES is 100 and SEED 1 if they are not given; the program is
+crates/mat_main/out/mat_main if none is named.
 """
 import collections
 import itertools
 import os
 import random
+import re
 import subprocess
 import sys
 import tempfile
@@ -25,7 +28,24 @@ SPOILT = [('gain', 'Gains', 'here it has person, day, shift, gains'), (',5', ','
           ('Ada,Mon', 'Cleo,Mon', "'Cleo': no line of"), ('day', 'gain', 'here it has person, gain'), ('day', 'must', "must is yes or no, and not 'Mon'"),
           ('Ada', 'Jörg', 'all of ASCII'), ('Ada', 'A' * 18, 'at most 27'), ('Ben,1,', 'Ada,1,', 'this name stands twice'),
           ('Ben,1,', 'Ben,,', 'has no number'), ('Ben,1,', 'Ben,one,', "not 'one'"), ('Ben,1,', 'Ben,1,1', 'for shifts alone'),
-          ('early,2,1', 'early,2,3', 'at least 3 are more than at most 2'), (',5', ',5:1', 'a weight has two numbers')]
+          ('early,2,1', 'early,2,3', 'at least 3 are more than at most 2'), (',5', ',5:1', 'a weight has two numbers'),
+          (',5', ',' + '5' * 5000, 'a gain is from -10^12 to 10^12'), (',5', ',1000000000001', 'a gain is from -10^12 to 10^12'),
+          ('Ada', 'A' * 140000, 'field larger than field limit'), ('Ada,Mon', '"A\nda",Mon', 'has a line end within it')]
+#: How else the tables may be saved, which changes no description.
+SAVED = [('a first line that says the sign between the cells', lambda text: 'sep=;\n' + text.replace(',', ';')),
+         ('tabs between the cells', lambda text: text.replace(',', '\t')),
+         ('an empty last column', lambda text: text.replace('\n', ',\n')),
+         ('two empty last columns, and empty lines', lambda text: text.replace('\n', ',,\n,,,,\n')),
+         ('a mark of UTF-8 and line ends of Windows', lambda text: '\ufeff' + text.replace('\n', '\r\n')),
+         ('line ends of old Macs', lambda text: text.replace('\n', '\r')),
+         ('each cell in quotes', lambda text: ''.join('"' + line.replace(',', '","') + '"\n' for line in text.splitlines()))]
+#: What says yes and no in the column must.
+YES = ['ja', 'WAHR', 'true', 'wahr', 'oui', 'si', 'x', '1', 'Yes']
+NO = ['nein', 'FALSCH', 'false', 'non', 'no', '0', '']
+#: Other scripts, their words, and a part of what is said of them.
+OTHERS = [('both_ways.py', ['nowhere.csv', 'Ash'], 'both_ways.py: nowhere.csv: No such file or directory'),
+          ('both_ways.py', ['UTF-16', 'Ash'], 'save it as CSV in UTF-8'), ('from_csv.py', ['UTF-16', 'UTF-16'], 'save it as CSV in UTF-8'),
+          ('names.py', ['nowhere.txt'], 'names.py: nowhere.txt: No such file or directory'), ('names.py', ['UTF-16'], 'this is no description')]
 
 
 def drawn(numbers):
@@ -83,13 +103,16 @@ def text_of(rows, numbers):
 
 
 def best_by_program(program, folder, description):
-    """The weight of the best of all sizes, and its wishes as PERSON.SHIFT."""
+    """The weight of the best of all sizes, and its wishes as PERSON.SHIFT; or what is printed if that is no plan."""
     path = os.path.join(folder, 'description.txt')
     with open(path, 'w', encoding='ascii') as file:
         file.write(description)
-    head, *names = ran([sys.executable, os.path.join(TOP, 'examples/names.py'), '--best', path], ran([program, 'intersect', path])).splitlines()
-    front, _, behind = head.split(' for ')[1].rstrip(':').partition(':')
-    return (int(front), int(behind or 0)), [name.removesuffix('.more') for name in names]
+    printed = ran([sys.executable, os.path.join(TOP, 'examples/names.py'), '--best', path], ran([program, 'intersect', path]))
+    head, *names = printed.splitlines() or ['']
+    told = re.fullmatch('[0-9]+ for (-?[0-9]+)(?::(-?[0-9]+))?:', head)
+    if not told:
+        return printed, []
+    return (int(told[1]), int(told[2] or 0)), [name.removesuffix('.more') for name in names]
 
 
 def is_right(program, folder, numbers):
@@ -107,18 +130,52 @@ def is_right(program, folder, numbers):
     return False
 
 
+def spoilt_tables(folder):
+    """Whether the script says what is wrong with each spoilt table."""
+    for old, new, said in SPOILT:
+        note = described(folder, WISHES.replace(old, new), LIMITS.replace(old, new))
+        yield f'{new[:40]!r} in place of {old!r}: {note[:400]!r} does not say {said!r}', said in note and 'Traceback' not in note
+
+
+def saved_tables(folder):
+    """Whether tables have the same description if they are saved in another way, or say the same in other words."""
+    must = WISHES.replace('gain', 'gain,must').replace(',5', ',5,yes').replace(',2', ',2,no')
+    plain, marked = described(folder, WISHES, LIMITS), described(folder, must, LIMITS)
+    yield f'a least number: {plain}', '\nweights 1:5 0:5 0:2\n' in plain
+    yield f'a least number, and the column must: {marked}', '\nweights 2:5 1:5 0:2\n' in marked
+    for what, saved in SAVED:
+        yield f'{what}: the description is another one', described(folder, saved(WISHES), saved(LIMITS)) == plain
+    for told, words in (('yes', YES), ('no', NO)):
+        for word in words:
+            yield f'{word!r} does not say {told}', described(folder, must.replace(f',{told}', f',{word}'), LIMITS) == marked
+    long, short = (described(folder, WISHES, LIMITS.replace('Ben,1,', f'Ben,{most},')) for most in ('9' * 5000, '500'))
+    yield f'a limit of 5,000 digits is not one of 500: {long[:400]}', long == short and long.startswith('matroids 2\n')
+
+
+def other_files(folder):
+    """Whether the other scripts say what is wrong with files that are none of theirs."""
+    path = os.path.join(folder, 'table.csv')
+    with open(path, 'w', encoding='utf-16') as file:
+        file.write('link,from,to\nroad,Ash,Beck\n')
+    for script, words, said in OTHERS:
+        words = [path if word == 'UTF-16' else word for word in words]
+        note = ran([sys.executable, os.path.join(TOP, 'examples', script), *words], '')
+        yield f'{script} {" ".join(words)}: {note[:400]!r} does not say {said!r}', said in note and 'Traceback' not in note
+
+
 def main():
     tables, seed = (int(word) for word in (sys.argv[1:3] + ['100', '1'][len(sys.argv[1:3]):]))
     program = os.path.abspath(sys.argv[3] if len(sys.argv) > 3 else os.path.join(TOP, 'crates/mat_main/out/mat_main'))
+    if not os.access(program, os.X_OK):
+        sys.exit(f'spreadsheets.py: {program}: there is no such program; ./matbench --version puts it there')
     numbers = random.Random(seed)
     with tempfile.TemporaryDirectory() as folder:
         wrong = sum(not is_right(program, folder, numbers) for _ in range(tables))
-        for old, new, said in SPOILT:
-            note = described(folder, WISHES.replace(old, new), LIMITS.replace(old, new))
-            if said not in note:
-                wrong += 1
-                print(f'{new!r} in place of {old!r}: {note!r} does not say {said!r}')
-    print(f'{tables} tables and {len(SPOILT)} spoilt ones, {wrong} wrong')
+        held = [*spoilt_tables(folder), *saved_tables(folder), *other_files(folder)]
+    faults = [what for what, holds in held if not holds]
+    print(*faults, sep='\n', end='\n' if faults else '')
+    wrong += len(faults)
+    print(f'{tables + len(held) - wrong} passed, {wrong} failed')
     sys.exit(1 if wrong else 0)
 
 

@@ -2,8 +2,8 @@
 and the page, byte for byte.
 
 The problems are those of examples/ and 200 random ones. PROGRAM is the program, CALL what tests/call.c is compiled to, and LINE what tests/line.c
-is. The page is tried in each BROWSER, or else in the one that browser.py starts: as files from a server, and as one file from a folder. There every
-example is chosen, solved and checked as a user does.
+is; CALL or LINE is `-` if it is not there, and then the answers of that library are not compared. The page is tried in each BROWSER: as files from
+a server, and as one file from a folder. There every example is chosen, solved and checked as a user does.
 """
 import json
 import os
@@ -15,7 +15,7 @@ import tempfile
 
 HERE = pathlib.Path(__file__).resolve().parent
 TOP = HERE.parent.parent
-sys.path[:0] = [str(HERE.parent), str(TOP / "bench")]
+sys.path[:0] = [str(HERE.parent), str(TOP / "tests")]
 
 import matbench  # noqa: E402
 import pages  # noqa: E402
@@ -62,13 +62,18 @@ class Compared:
             for name, text in files.items():
                 pathlib.Path(folder, name).write_bytes(text)
             ended = subprocess.run([self.program, *words], cwd=folder, capture_output=True, check=False)
-            called = subprocess.run([self.caller, *words, "--", *(f"{name}={name}" for name in files)], cwd=folder, capture_output=True,
-                                    check=False)
             wanted = (ended.returncode, ended.stdout, ended.stderr)
-            if not words[0].startswith("--"):
+            if self.caller:
+                self.by_library(words, files, folder, wanted)
+            if self.line and not words[0].startswith("--"):
                 self.by_line(words, files, folder, wanted)
-        self.hold("C", words, wanted, (called.returncode, called.stdout, called.stderr))
         return wanted
+
+    def by_library(self, words, files, folder, wanted):
+        """Makes a call by the C library."""
+        given = [*words, "--", *(f"{name}={name}" for name in files)]
+        ended = subprocess.run([self.caller, *given], cwd=folder, capture_output=True, check=False)
+        self.hold("C", words, wanted, (ended.returncode, ended.stdout, ended.stderr))
 
     def by_line(self, words, files, folder, wanted):
         """Makes a call by the static library, and where it has an output, once more with room for one byte less."""
@@ -104,6 +109,20 @@ def solved(compared, name, text):
             yield from shown(compared, f"{name}, {command}", files)
             if words[0] == "intersect":
                 yield from witnessed(compared, f"{name}, {command}", files)
+    yield listed(compared, text, [command for command in commands if command not in ("show", "convert", "cuts")])
+
+
+def listed(compared, text, commands):
+    """The call that answers a list of jobs about a problem, one for each command."""
+    files = {"f": text, "c": "\n".join(["jobs 1", *(f"job {command} f" for command in commands), "end", ""]).encode()}
+    return ["batch", "c"], files, compared.call(["batch", "c"], files)
+
+
+def sampled(compared):
+    """The calls that draw a problem of each kind."""
+    for kind in ("pair", "list", "graph", "rooted", "table"):
+        words = ["sample", kind, "12", "7"]
+        yield words, {}, compared.call(words, {})
 
 
 def witnessed(compared, what, files):
@@ -129,7 +148,11 @@ def shown(compared, what, files):
     for word, function in (("--tell", matbench.tell), ("--picture", matbench.picture)):
         words = [word, "f", "c"]
         wanted = compared.call(words, files)
-        compared.hold(f"Python {word}", what, (0, wanted[1], b""), (wanted[0], function(files["f"], files["c"]).encode(), wanted[2]))
+        try:
+            given = function(files["f"], files["c"]).encode()
+        except matbench.MatbenchError as refusal:
+            given = repr(refusal)
+        compared.hold(f"Python {word}", what, (0, wanted[1], b""), (wanted[0], given, wanted[2]))
         yield words, files, wanted
 
 
@@ -190,14 +213,16 @@ def compare_in(compared, program, calls, examples):
 
 
 def main():
-    compared = Compared(*map(os.path.abspath, sys.argv[1:4]))
-    calls, examples = [], {}
+    if len(sys.argv) < 4:
+        sys.exit("usage: answers.py PROGRAM CALL LINE [BROWSER..]")
+    compared = Compared(*(os.path.abspath(word) if word != "-" else None for word in sys.argv[1:4]))
+    calls, examples = list(sampled(compared)), {}
     for name, text in problems():
         calls += solved(compared, name, text)
         if not name.startswith("random"):
             calls += refused(compared, text)
             examples[name] = text
-    for program in sys.argv[4:] or [None]:
+    for program in sys.argv[4:]:
         compare_in(compared, program, calls, examples)
     print("answers.py:", ", ".join(f"{way} {count}" for way, count in compared.counts.items()), f"compared, {compared.wrong} wrong")
     return 1 if compared.wrong else 0

@@ -16,6 +16,7 @@ trap 'exit 143' HUP INT TERM
 (
     [ -z "$host" ] || exec sh "$(dirname -- "$0")/by_ssh.sh" "$host" "exec matbench-many/mat_main $words -"
     ulimit -f 131073
+    # shellcheck disable=SC2086
     exec "$program" $words -
 ) <"$run/in/$id" >"$part" 2>"$note"
 status=$?

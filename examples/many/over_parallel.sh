@@ -22,7 +22,7 @@ all=$(wc -l <"$run/todo") || exit 66
 parallel --version 2>/dev/null | grep -q '^GNU parallel' ||
     { echo "over_parallel.sh: GNU parallel is missing; on Debian: apt-get install parallel" >&2; exit 69; }
 : >"$run/hosts"
-while read -r line; do
+while read -r line || [ -n "$line" ]; do
     case $line in
     '' | '#'*) continue ;;
     : | */:) echo "$line" >>"$run/hosts"; continue ;;

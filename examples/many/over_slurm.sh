@@ -17,6 +17,7 @@ esac
 all=$(wc -l <"$run/todo") || exit 66
 [ "$all" -gt 0 ] || exit 0
 
+# shellcheck disable=SC2317 # `trap` calls it.
 # Ends sbatch, so that it hands in no array from then on, and cancels by the name, which no other array has: sbatch may have told no id yet.
 cancel() {
     kill "${!:-}" 2>/dev/null
@@ -24,6 +25,7 @@ cancel() {
     scancel -n "$name"
 }
 
+# shellcheck disable=SC2317 # `trap` calls it.
 finish() {
     [ -z "$waiting" ] || cancel
     python3 "$here/jobs.py" take "$run" "$share"

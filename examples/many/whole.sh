@@ -3,10 +3,11 @@
 #
 # It installs what is missing from Debian's packages, or says what is missing; draws COUNT problems of SIZE elements (else 40 of 60) into FOLDER;
 # spreads them, by GNU parallel over the hosts of the file that MANY_HOSTS names (else over this machine alone) or by a Slurm of one node that it
-# starts and stops (slurm_here.sh; none is started where SLURM_CONF names one); and judges what came back. The last line counts.
+# starts and stops (slurm_here.sh; none is started where SLURM_CONF names one); and judges what came back. The last line counts. FOLDER is new, or
+# belongs to you, and nobody else may write there.
 set -u
 here=$(CDPATH='' cd -- "$(dirname -- "$0")" && pwd)
-[ "$#" -ge 1 ] || { sed -n '2,6s/^# \{0,1\}//p' "$0" >&2; exit 64; }
+[ "$#" -ge 1 ] || { sed -n '2,7s/^# \{0,1\}//p' "$0" >&2; exit 64; }
 folder=$1 way=${2:-parallel} count=${3:-40} size=${4:-60}
 PATH=$PATH:/usr/sbin
 
@@ -28,7 +29,12 @@ need() {
     done
 }
 
-mkdir -p "$folder" && folder=$(cd "$folder" && pwd) || exit 71
+(umask 022 && mkdir -p -- "$folder") && folder=$(CDPATH='' cd -- "$folder" && pwd -P) || exit 71
+# shellcheck disable=SC3067
+if [ ! -O "$folder" ] || [ -n "$(find "$folder" -prune -perm /022)" ]; then
+    echo "whole.sh: $folder belongs to another user, or others may write there" >&2
+    exit 71
+fi
 need python3 python3
 case $way in
 parallel) need parallel parallel ;;
