@@ -214,7 +214,7 @@ retarget() {
         -e 's/^target triple = .*/target triple = "wasm64-unknown-unknown"/' \
         -e 's/ "probe-stack"="[^"]*"//; s/ "stack-probe-size"="[^"]*"//; s/ "target-cpu"="[^"]*"//; s/ "target-features"="[^"]*"//' \
         "$work/x86.ll" >"$work/retargeted.ll"
-    compile_for_wasm -mllvm -trap-unreachable -mllvm -expand-div-rem-bits=64 -O3 -x ir "$work/retargeted.ll" -o "$2"
+    compile_for_wasm -mllvm -trap-unreachable -mllvm -expand-div-rem-bits=64 -O2 -x ir "$work/retargeted.ll" -o "$2"
 }
 
 # Links an object file and parts of the shim to a module: link_module OBJECT MODULE PART ..
@@ -231,6 +231,8 @@ link_module() {
     "$work/llvm-ar" crs "$work/libmodule.a" "$object" "$@"
     "$kit/bin/rattle-link" --target wasm64-unknown-unknown --toolchain "$kit/toolchain" --stack 16777216 -o "$module" \
         "$work/libmodule.a" 2>"$work/linked" || fail "the module cannot be linked: $(cat "$work/linked")"
+    # The names of its functions, which only a debugger reads.
+    "$work/llvm-objcopy" --strip-all "$module"
 }
 
 # The module of the program, which asks its host for one function, and that of the static library, which asks for nothing.
