@@ -4,7 +4,7 @@
 #   release/try_elsewhere.sh
 #
 # It runs as root, and needs debootstrap, git, unshare and a network to a mirror of Debian. What is tried runs without a network.
-# The new system takes about 1 GB in TMPDIR, or else in /var/tmp. It is removed at the end.
+# The new system takes some 1.5 GB in TMPDIR, or else in /var/tmp. It is removed at the end.
 # Each line that begins with `ok` or `WRONG` is a test. The last line counts them, and the status is 1 if one is wrong, and 2 if nothing could be tried.
 #
 # Variables:
@@ -344,18 +344,26 @@ try_page() {
     [ -z "${PICTURES:-}" ] || cp "$root/tmp/page.png" "$PICTURES/" 2>/dev/null || true
 }
 
+# Compiles the C program of a section of docs/BINDINGS.md by pkg-config, and runs it over people.txt: compile_and_run SECTION LIBRARY
+compile_and_run() {
+    block docs/BINDINGS.md "$1" c >"$root/tmp/example.c"
+    call sh -c 'PKG_CONFIG_PATH=$(echo /tmp/archive/*/lib/pkgconfig) && export PKG_CONFIG_PATH &&
+        cc -Wall -Werror -o /tmp/example /tmp/example.c $(pkg-config --cflags --libs "$1")' sh "$2"
+    expect "the program of docs/BINDINGS.md, $1, is compiled by pkg-config" [ "$status" -eq 0 ]
+    call sh -c '/tmp/example <examples/people.txt'
+}
+
 try_archive() {
     prepare "the archive for C" "release/matbench-c-*.tar.xz" $archive_packages || return 0
-    block docs/BINDINGS.md "In C" c >"$root/tmp/example.c"
     call sh -c 'mkdir /tmp/archive && tar -C /tmp/archive -xf release/matbench-c-*.tar.xz'
     expect "the archive for C is unpacked" [ "$status" -eq 0 ]
-    call sh -c 'PKG_CONFIG_PATH=$(echo /tmp/archive/*/lib/pkgconfig) && export PKG_CONFIG_PATH &&
-        cc -Wall -Werror -o /tmp/example /tmp/example.c $(pkg-config --cflags --libs matbench)'
-    expect "the C program of docs/BINDINGS.md is compiled by pkg-config" [ "$status" -eq 0 ]
-    call sh -c '/tmp/example <examples/people.txt'
+    compile_and_run "In C" matbench
     expect "it prints the certificate that is shown there" printed_silently
-    call sh -c 'PKG_CONFIG_PATH=$(echo /tmp/archive/*/lib/pkgconfig) pkg-config --modversion matbench'
-    expect "pkg-config has the version $version" printed "$version"
+    compile_and_run "In C, by contract" matbench_line
+    expect "it prints what is shown there" printed "$(block docs/BINDINGS.md "In C, by contract" "")"
+    call sh -c 'PKG_CONFIG_PATH=$(echo /tmp/archive/*/lib/pkgconfig) pkg-config --modversion matbench matbench_line'
+    expect "pkg-config has the version $version of both libraries" printed "$version
+$version"
 }
 
 # What README.md shows for a first answer, typed from its own text. Python, with pip, and a C compiler are there by now.
