@@ -1,7 +1,8 @@
 #!/bin/sh
 # Tries the release in a new minimal Debian, into which a clone of HEAD is laid. Neither the kit nor anything else of this machine is there.
 #
-#   release/try_elsewhere.sh
+#   release/try_elsewhere.sh          tries the program, the wheel, the page, the archive for C, and what README.md shows
+#   release/try_elsewhere.sh PART..   tries these of the parts program, wheel, page, archive and readme
 #
 # It runs as root, and needs debootstrap, git, unshare and a network to a mirror of Debian. What is tried runs without a network.
 # The new system takes some 1.5 GB in TMPDIR, or else in /var/tmp. It is removed at the end.
@@ -26,10 +27,11 @@ page_packages='python3 chromium fonts-dejavu-core'
 archive_packages='gcc libc6-dev pkg-config xz-utils'
 # The first version of Chromium that runs 64-bit WebAssembly memory, as docs/BINDINGS.md says.
 oldest_chromium=133
-# The clone, by its path in the new system.
-place=/srv/matbench
+# The clone, by its path in the new system. Folders of users have spaces in their names too.
+place='/srv/a checkout'
 answer_of_people='./matbench intersect examples/people.txt'
-passed=0 failed=0 child='' work=''
+all_parts='program wheel page archive readme'
+passed=0 failed=0 child='' work='' is_updated=''
 
 fail() {
     echo "try_elsewhere.sh: $1" >&2
@@ -48,6 +50,16 @@ clean_up() {
 }
 
 # --- the new system ---
+
+# Ends if a word names no part.
+end_if_no_part() {
+    for part in "$@"; do
+        case " $all_parts " in
+            *" $part "*) ;;
+            *) fail "there is no part $part: the parts are $all_parts" ;;
+        esac
+    done
+}
 
 end_if_lacking() {
     for needed in debootstrap git tar timeout unshare; do
@@ -201,7 +213,7 @@ try_nothing_is_there() {
     expect "no network is there" [ "$status" -eq 0 ]
 }
 
-try_program() {
+try_first_calls() {
     began=$(date +%s%3N)
     call $answer_of_people
     took=$(($(date +%s%3N) - began))
@@ -265,7 +277,7 @@ try_old_system() {
     expect "--help needs no program" has_line 'usage: matbench .*'
 }
 
-try_part_program() {
+try_program() {
     packed=$clone/release/matbench-x86_64-linux.gz
     try_nothing_is_there
     if ! is_there 'release/matbench-x86_64-linux.gz'; then
@@ -273,7 +285,7 @@ try_part_program() {
     elif [ "${glibc#2.}" -lt "${oldest_glibc#2.}" ]; then
         try_old_system
     else
-        try_program
+        try_first_calls
         try_other_user
         try_prove
         try_changed_source
@@ -294,6 +306,10 @@ prepare() {
     if ! is_there "$pattern"; then
         not_run "$part" "there is no $pattern"
         return 1
+    fi
+    if [ -z "$is_updated" ]; then
+        is_updated=yes
+        in_system --mount root apt-get update </dev/null >>"$work/log" 2>&1 || true
     fi
     in_system --mount root apt-get install -y --no-install-recommends "$@" </dev/null >>"$work/log" 2>&1 && return
     not_run "$part" "apt-get could not install $*: $(grep '^E: ' "$work/log" | tail -n 1)"
@@ -366,7 +382,7 @@ try_archive() {
 $version"
 }
 
-# What README.md shows for a first answer, typed from its own text. Python, with pip, and a C compiler are there by now.
+# What README.md shows for a first answer, typed from its own text, in a virtual environment of Python.
 try_readme() {
     if [ "${glibc#2.}" -lt "${oldest_glibc#2.}" ]; then
         not_run "what README.md shows" "the program needs glibc $oldest_glibc"
@@ -379,6 +395,8 @@ try_readme() {
     fi
 }
 
+[ "$#" -gt 0 ] || set -- $all_parts
+end_if_no_part "$@"
 end_if_lacking
 [ -z "${PICTURES:-}" ] || mkdir -p "$PICTURES" || fail "the folder $PICTURES could not be made"
 trap clean_up EXIT
@@ -397,12 +415,10 @@ case "$glibc $oldest_glibc" in
     *) fail "the versions of glibc, that of the system and the oldest for the launcher, could not be read: $(head -n 1 "$work/err")" ;;
 esac
 echo "Debian $suite with glibc $glibc; a clone of $(git -C "$clone" log -1 --format=%h)"
-try_part_program
-in_system --mount root apt-get update </dev/null >>"$work/log" 2>&1 || true
-try_wheel
-try_page
-try_archive
-try_readme
+for part in "$@"; do
+    "try_$part"
+done
 [ -z "${PICTURES:-}" ] || cp "$work/log" "$PICTURES/"
 echo "$passed passed, $failed failed"
+[ "$((passed + failed))" -gt 0 ] || exit 2
 [ "$failed" -eq 0 ]
