@@ -9,7 +9,7 @@
 # Each line that begins with `ok` or `WRONG` is a test. The last line counts them, and the status is 1 if one is wrong, and 2 if nothing could be tried.
 #
 # Variables:
-#   SUITE=bookworm   the version of Debian
+#   SUITE=bookworm   the version of Debian, if the minimal system is made
 #   MIRROR=ADDRESS   the mirror of Debian
 #   BASE=FILE        a tar archive of the minimal system: it is unpacked if it is there, and else made
 #   PICTURES=FOLDER  gets a picture of the page, and the log
@@ -152,7 +152,9 @@ ok() {
 # Says what is wrong, and the first lines that the last call printed.
 wrong() {
     echo "WRONG: $1"
-    head -n 5 "$work/err" "$work/out" 2>/dev/null | cut -c 1-200 | sed 's/^/    /'
+    for stream in err out; do
+        head -n 5 "$work/$stream" | cut -c 1-200 | sed "s/^/    $stream: /"
+    done
     failed=$((failed + 1))
 }
 
@@ -351,7 +353,7 @@ try_page() {
     call chromium --version
     chromium=$(sed -n 's/^Chromium \([0-9]*\)\..*/\1/p' "$work/out")
     if [ "${chromium:-0}" -lt "$oldest_chromium" ]; then
-        not_run "the page" "Chromium ${chromium:-} of Debian $suite is older than $oldest_chromium"
+        not_run "the page" "Chromium ${chromium:-} of $system is older than $oldest_chromium"
         return
     fi
     cp "$work/certificate" "$root/tmp/people.answer"
@@ -414,7 +416,8 @@ case "$glibc $oldest_glibc" in
     2.*' '2.*) ;;
     *) fail "the versions of glibc, that of the system and the oldest for the launcher, could not be read: $(head -n 1 "$work/err")" ;;
 esac
-echo "Debian $suite with glibc $glibc; a clone of $(git -C "$clone" log -1 --format=%h)"
+system=$(sed -n 's/^PRETTY_NAME="\(.*\)"$/\1/p' "$root/etc/os-release")
+echo "$system with glibc $glibc; a clone of $(git -C "$clone" log -1 --format=%h)"
 for part in "$@"; do
     "try_$part"
 done
