@@ -48,10 +48,7 @@ fn print_performed<R: Threads + Sync>(rt: &R, host: &HostRuntime, line: &str) ->
 }
 
 /// Prints what comes of each of some command lines.
-pub(crate) fn print_all_performed<R: Threads + Sync>(
-    rt: &R,
-    host: &HostRuntime,
-) -> io::Result<()> {
+pub(crate) fn print_all_performed<R: Threads + Sync>(rt: &R, host: &HostRuntime) -> io::Result<()> {
     for line in LINES {
         print_performed(rt, host, line)?;
     }
