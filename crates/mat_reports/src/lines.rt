@@ -40,6 +40,11 @@ pub(crate) fn judged_answer(alloc: Global) -> Result<Called, AllocError> {
     called(alloc, "check f c", &solved.output)
 }
 
+/// What comes of a name that no file has.
+pub(crate) fn missed_file(alloc: Global) -> Result<Called, AllocError> {
+    called(alloc, "show g", &[])
+}
+
 /// The answers to the jobs of a list.
 pub(crate) fn listed_answers(alloc: Global) -> Result<Called, AllocError> {
     let rt = OneWorker;

@@ -15,7 +15,7 @@ mod program;
 
 use crate::calls::{Ended, ended_of};
 use crate::faults::all_ended;
-use crate::lines::{judged_answer, listed_answers};
+use crate::lines::{judged_answer, listed_answers, missed_file};
 use crate::program::print_all_performed;
 use mat_call::Called;
 use mat_judge::Status;
@@ -91,6 +91,8 @@ fn print_called(rt: &HostRuntime, name: &str, called: &Called) -> io::Result<()>
 fn print_lines(rt: &HostRuntime) -> io::Result<()> {
     let judged = judged_answer(rt.alloc())?;
     print_called(rt, "an answer by a line is judged by a line", &judged)?;
+    let missed = missed_file(rt.alloc())?;
+    print_called(rt, "a line names a file that is not there", &missed)?;
     let listed = listed_answers(rt.alloc())?;
     print_called(rt, "the jobs of a list by a line", &listed)
 }
