@@ -6,11 +6,10 @@ mod help;
 use crate::help::TEXTS;
 use mat_program::perform;
 use mat_shelf::{FileShelf, StreamSink};
-use mat_top::Status;
+use mat_top::{Status, TopWorkers};
 use std::alloc::AllocError;
 use std::io::Write;
 use std::process::ExitCode;
-use std::thread::Threads;
 use std::{env, io};
 
 // The words after the program's name: none where they are not UTF-8, which are no command either.
@@ -29,7 +28,9 @@ fn words_of(rt: &HostRuntime) -> Result<Vec<String>, AllocError> {
 }
 
 // Does what the words after the program's name ask for, over the real files and streams of the host.
-fn program<R: Threads + Sync>(rt: &R, host: &HostRuntime) -> ExitCode {
+fn program<R: TopWorkers>(rt: &R, host: &HostRuntime) -> ExitCode
+    requires shared { R.shared rt.now }
+{
     let Ok(words) = words_of(host) else {
         let _ = host.stderr().write_all(b"refused: memory\n");
         return ExitCode::from(Status::Memory.number());
@@ -56,10 +57,11 @@ fn main(rt: HostRuntime) -> ExitCode {
 #[cfg(test)]
 mod tests {
     use super::*;
+    use mat_top::OneWorker;
 
     #[test]
     fn the_word_of_a_test_is_no_command(rt: HostRuntime) {
-        assert_eq!(rt; program(&rt, &rt), ExitCode::from(2));
+        assert_eq!(rt; program(&OneWorker, &rt), ExitCode::from(2));
     }
 
     #[test]
