@@ -21,8 +21,8 @@ const STATUSES = {
 
 const at = (id) => document.getElementById(id);
 const partsOfBox = (id) => ({ area: at(id), fault: at(`${id}-fault`), part: at(`${id}-part`), back: at(`${id}-back`) });
-const description = new TextBox(partsOfBox("description"), MOST_DESCRIPTION);
-const answer = new TextBox(partsOfBox("answer"), MOST_CERTIFICATE);
+const description = new TextBox(partsOfBox("description"), MOST_DESCRIPTION, 1_000_000);
+const answer = new TextBox(partsOfBox("answer"), MOST_CERTIFICATE, 200_000);
 const parts = new AnswerParts({ nothing: at("nothing"), words: at("words"), picture: at("picture"), names: at("names") });
 /** The runs that show a right answer: the first word of each, what is said of it, and what is done with what it writes. */
 const SHOWN = [
