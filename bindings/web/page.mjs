@@ -308,11 +308,17 @@ function keepTexts() {
 function takeKept() {
   const found = kept();
   if (found?.fragment !== location.hash || !found.text) return false;
-  description.restore(found.text);
+  putBack(description, found.text, !EXAMPLES.some((it) => it.text === found.text));
   setCommand(found);
-  if (found.answer) answer.restore(found.answer);
+  if (found.answer) putBack(answer, found.answer, !found.answered);
   answered = found.answered ?? null;
   return true;
+}
+
+/** Puts a text into a box again: as one that was written there, which another text does not replace for good, or as one that was not. */
+function putBack(box, text, isWritten) {
+  if (isWritten) box.restore(text);
+  else box.text = text;
 }
 
 function takeFile(event, box) {
