@@ -33,7 +33,8 @@ function startWorker() {
   return new Worker(workerAddress);
 }
 if (!globalThis.DecompressionStream) {
-  document.getElementById("unable").textContent = "This browser is too old: the page needs DecompressionStream, and 64-bit WebAssembly memory.";
+  document.getElementById("unable").textContent =
+    "This browser is too old: the page needs DecompressionStream, and 64-bit WebAssembly memory.";
 }
 """
 #: data.mjs of the one file.

@@ -21,8 +21,8 @@ const STATUSES = {
 
 const at = (id) => document.getElementById(id);
 const partsOfBox = (id) => ({ area: at(id), fault: at(`${id}-fault`), part: at(`${id}-part`), back: at(`${id}-back`) });
-const description = new TextBox(partsOfBox("description"), MOST_DESCRIPTION);
-const answer = new TextBox(partsOfBox("answer"), MOST_CERTIFICATE);
+const description = new TextBox(partsOfBox("description"), MOST_DESCRIPTION, 1_000_000);
+const answer = new TextBox(partsOfBox("answer"), MOST_CERTIFICATE, 200_000);
 const parts = new AnswerParts({ nothing: at("nothing"), words: at("words"), picture: at("picture"), names: at("names") });
 /** The runs that show a right answer: the first word of each, what is said of it, and what is done with what it writes. */
 const SHOWN = [
@@ -308,11 +308,17 @@ function keepTexts() {
 function takeKept() {
   const found = kept();
   if (found?.fragment !== location.hash || !found.text) return false;
-  description.restore(found.text);
+  putBack(description, found.text, !EXAMPLES.some((it) => it.text === found.text));
   setCommand(found);
-  if (found.answer) answer.restore(found.answer);
+  if (found.answer) putBack(answer, found.answer, !found.answered);
   answered = found.answered ?? null;
   return true;
+}
+
+/** Puts a text into a box again: as one that was written there, which another text does not replace for good, or as one that was not. */
+function putBack(box, text, isWritten) {
+  if (isWritten) box.restore(text);
+  else box.text = text;
 }
 
 function takeFile(event, box) {

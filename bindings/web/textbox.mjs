@@ -1,15 +1,14 @@
 // A text box that can mark a line, takes files that are dropped on it, and brings back what was written where another text came in its place.
 
-/** A longer text would hold up the browser, so the box shows as many of its lines as have so many characters, and keeps the rest. */
+/** Lines of which more would hold up the browser. */
 const MOST_LINES = 10_000;
-const MOST_CHARACTERS = 1_000_000;
 
 /** How many characters of a text are shown: all, or those of the lines that have room, or a part of the first line. */
-function lengthShown(text) {
+function lengthShown(text, mostCharacters) {
   let end = 0;
   for (let lines = 0; lines < MOST_LINES && end < text.length; lines++) {
     const next = text.indexOf("\n", end) + 1 || text.length;
-    if (next > MOST_CHARACTERS) return end || MOST_CHARACTERS;
+    if (next > mostCharacters) return end || mostCharacters;
     end = next;
   }
   return end;
@@ -51,10 +50,11 @@ export class TextBox {
 
   /**
    * `area` is a textarea within a box that has an element of the class `mark`; `fault` is where a fault is told, `part` where it is told how much
-   * is shown, and `back` is the button that brings back what was written.
+   * is shown, and `back` is the button that brings back what was written. A file may have so many bytes. Of a text of more characters, which would
+   * hold up the browser, the front is shown.
    */
-  constructor({ area, fault, part, back }, mostBytes) {
-    Object.assign(this, { area, fault, part, back, mostBytes });
+  constructor({ area, fault, part, back }, mostBytes, mostCharacters) {
+    Object.assign(this, { area, fault, part, back, mostBytes, mostCharacters });
     this.mark = area.parentElement.querySelector(".mark");
     this.line = null;
     area.addEventListener("scroll", () => this.#placeMark());
@@ -106,7 +106,7 @@ export class TextBox {
   /** The area is out of the page while its text is changed: a browser forgets then what it could undo there, which was of another text. */
   #show(text) {
     const hasFocus = document.activeElement === this.area;
-    const length = lengthShown(text);
+    const length = lengthShown(text, this.mostCharacters);
     this.#whole = length < text.length ? text : null;
     this.area.remove();
     this.area.value = text.slice(0, length);
@@ -123,7 +123,7 @@ export class TextBox {
     if (this.#whole === null) return;
     const inAll = (count) => count.toLocaleString("en");
     const [shown, whole] = [countLines(this.area.value), countLines(this.#whole)];
-    const told = shown > 0 ? `${inAll(shown)} of ${inAll(whole)} lines` : `${inAll(MOST_CHARACTERS)} of ${inAll(this.#whole.length)} characters`;
+    const told = shown > 0 ? `${inAll(shown)} of ${inAll(whole)} lines` : `${inAll(this.area.value.length)} of ${inAll(this.#whole.length)} characters`;
     this.part.append(`The first ${told} are shown, and cannot be changed here. The whole text is what is solved, checked and saved. `);
     this.part.append(buttonFor("Empty the box", () => this.#empty()));
   }
@@ -144,7 +144,7 @@ export class TextBox {
   #paste(event) {
     const { value, selectionStart, selectionEnd, readOnly } = this.area;
     const text = value.slice(0, selectionStart) + event.clipboardData.getData("text/plain") + value.slice(selectionEnd);
-    if (readOnly || lengthShown(text) === text.length) return;
+    if (readOnly || lengthShown(text, this.mostCharacters) === text.length) return;
     event.preventDefault();
     this.text = text;
   }
