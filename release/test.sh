@@ -85,7 +85,15 @@ run_quick() {
     run_by mandoc "the man page" mandoc -Tlint -Wwarning docs/matbench.1
 }
 
-# Runs shellcheck over each shell script of the repository.
+# Runs shellcheck over each shell script of the repository, if it is here and git knows them.
+run_shellcheck() {
+    if has shellcheck && git ls-files --error-unmatch matbench >/dev/null 2>&1; then
+        run "the shell scripts" check_scripts
+    else
+        cannot "the shell scripts" "there is no shellcheck, or this is no checkout of git"
+    fi
+}
+
 check_scripts() {
     git ls-files -z | xargs -0 grep -lZE '^#!/bin/(sh|bash)' | xargs -0 shellcheck -x
 }
@@ -103,7 +111,7 @@ run_all() {
     run_by python3 "what the documents show" python3 tests/shown.py "$program"
     run_by python3 "tables of spreadsheets" python3 tests/spreadsheets.py 100 1 "$program"
     run_by mandoc "the man page" mandoc -Tlint docs/matbench.1
-    run_by shellcheck "the shell scripts" check_scripts
+    run_shellcheck
     run "the launcher" env --default-signal=INT tests/launcher_test.sh
     run_reports
     run_by cc "memory that is refused" python3 tests/refused_memory.py "$program"
