@@ -1,5 +1,5 @@
 #!/bin/sh
-# Builds what docs/BINDINGS.md describes into bindings/out/, of the proved program of this checkout. It needs the kit and cc alone.
+# Builds what docs/BINDINGS.md describes into bindings/out/, of the proved program of this checkout. It needs the kit and python3 alone.
 #
 #   bindings/build.sh                                 of the proved program, which ./matbench builds first where it is not built
 #   bindings/build.sh OBJECT MODULE LIBRARY MODULE    of another program's object file and LLVM module, and of another static library's
@@ -9,19 +9,20 @@ bindings=$(dirname -- "$(readlink -f -- "$0")")
 top=$(dirname -- "$bindings")
 out=$bindings/out
 guide=$(rt doc) || { echo "build.sh: there is no command rt, which the kit has" >&2; exit 70; }
+command -v python3 >/dev/null || { echo "build.sh: there is no command python3" >&2; exit 70; }
 kit=$(dirname -- "$guide")
 work=$(mktemp -d -p "${TMPDIR:-/var/tmp}")
 trap 'rm -rf "$work"' EXIT
 trap 'exit 70' HUP INT TERM
 
 # What the program calls of the C library and the shim answers, and the program's entry.
-system="main rattle_arg open read write __write close lseek _exit __sysv_signal"
-# What it may call of the C library besides.
-allowed=" abort free malloc realloc memcpy memmove memset _setjmp longjmp __errno_location __udivti3 __umodti3 __x86_get_cpuid_feature_leaf "
-allowed="$allowed pthread_attr_init pthread_attr_destroy pthread_attr_setguardsize pthread_create pthread_detach pthread_join pthread_self "
-allowed="$allowed __tls_get_addr _GLOBAL_OFFSET_TABLE_ __stack_chk_fail "
-# What the static library may call of it, and of the compiler for division.
-allowed_to_library=" malloc realloc free memcpy memmove memset __udivti3 __umodti3 _GLOBAL_OFFSET_TABLE_ "
+system="main rattle_arg open read write __write close lseek _exit __sysv_signal __x86_get_cpuid_feature_leaf"
+# What the linker has, and the compiler for division.
+allowed_to_all=" __udivti3 __umodti3 _GLOBAL_OFFSET_TABLE_ "
+# What the program may call of the C library besides.
+allowed="$allowed_to_all$(sed -n '/^#/!s/^[^ ]* [^ ]*\(.*\)/\1 /p' "$bindings/shim/c_library.txt" | tr -d '\n')"
+# What the static library may call of it.
+allowed_to_library="$allowed_to_all malloc realloc free memcpy memmove memset "
 
 fail() {
     echo "build.sh: $1" >&2
@@ -30,7 +31,45 @@ fail() {
 
 # The kit's clang is each of LLVM's tools, by the name that it is called by.
 link_tools() {
-    for tool in llvm-objcopy llvm-nm llvm-ar clang; do ln -s "$kit/toolchain/bin/clang" "$work/$tool"; done
+    for tool in llvm-objcopy llvm-nm llvm-ar ld.lld clang; do ln -s "$kit/toolchain/bin/clang" "$work/$tool"; done
+}
+
+# Compiles C or assembly for Linux by the kit's clang, so that no compiler of the machine has a part in the libraries: compile_for_linux FLAG ..
+compile_for_linux() {
+    "$work/clang" --target=x86_64-unknown-linux-gnu -march=x86-64 --no-default-config -fno-crash-diagnostics -fPIC -c "$@"
+}
+
+# The shim for Linux. It is compiled before anything is proved.
+compile_shim() {
+    for part in system native; do
+        compile_for_linux -std=c11 -O2 -ffreestanding -nostdinc -isystem "$bindings/shim/include" -Wall -Wextra -Werror \
+            "$bindings/shim/$part.c" -o "$work/$part.o" || fail "the shim cannot be compiled"
+    done
+}
+
+# A file of the C library with these names at a version, of which the linker needs no more: make_stub FILE VERSION NAME ..
+make_stub() {
+    file=$1 version=$2
+    shift 2
+    for name in "$@"; do printf '.globl %s\n.type %s,@function\n%s:\n' "$name" "$name" "$name"; done >"$work/stub.s"
+    printf '%s { global: *; };\n' "$version" >"$work/stub.map"
+    compile_for_linux "$work/stub.s" -o "$work/stub.o"
+    "$work/ld.lld" -shared -soname "$file" --version-script "$work/stub.map" -o "$work/stubs/$file" "$work/stub.o"
+}
+
+# A stub for each file of shim/c_library.txt.
+make_stubs() {
+    mkdir "$work/stubs"
+    sed '/^#/d' "$bindings/shim/c_library.txt" | awk '{ it = $1 " " $2; $1 = $2 = ""; names[it] = names[it] $0 }
+        END { for (it in names) print it names[it] }' >"$work/c_library"
+    # shellcheck disable=SC2086 # Each name is a word.
+    while read -r line; do make_stub $line </dev/null; done <"$work/c_library"
+}
+
+# Copies a header for C, and writes the version of the program into it.
+copy_header() {
+    grep -q '"@VERSION@"' "$bindings/$1" || fail "$1 has no place for the version"
+    sed "s/@VERSION@/$version_of_program/" "$bindings/$1" >"$out/$1"
 }
 
 # The lines of crates.txt, which has the lowest crate first, for the program, the static library and the crates that they stand on.
@@ -46,6 +85,7 @@ lay_out_libraries() {
     mkdir -p "$copy/.git" "$copy/crates"
     lines_of_both >"$copy/crates.txt"
     [ ! -e "$top/HANDLES" ] || cp "$top/HANDLES" "$copy/"
+    # shellcheck disable=SC2013 # Each line has one word.
     for crate in $(sed 's/[ :].*//' "$copy/crates.txt"); do
         mkdir "$copy/crates/$crate"
         for part in src specs proofs c args stdin stdout status data; do
@@ -73,6 +113,7 @@ prove_and_build() {
     crate=$1 source=$2 output=$3 module=$4
     shift 4
     set -- "$@" --crate-name "$crate" "$source" --extern "std=$kit/rlibs/std.rlib" -L "dependency=$kit/rlibs"
+    # shellcheck disable=SC2013 # Each name is a word.
     for used in $(sed -n "s/^$crate\( staticlib\)\{0,1\}: *//p" "$copy/crates.txt"); do set -- "$@" --extern "$used=../$used/out/rlib/$used.rlib"; done
     for folder in "$copy"/crates/*/out/rlib; do set -- "$@" -L "dependency=$folder"; done
     set -- "$@" --antt-project "$kit/rattle/logic/antt-project.json" --logic-built "$kit/logic_built" --links "$crate=" --jobs 1
@@ -124,26 +165,41 @@ build_libraries() {
     set --
     for name in $system; do set -- "$@" --redefine-sym "$name=matbench_system_$name"; done
     "$work/llvm-objcopy" "$@" "$object" "$work/program.o"
-    for part in system native; do
-        cc -std=c11 -O2 -fPIC -Wall -Wextra -Werror -c "$bindings/shim/$part.c" -o "$work/$part.o"
-    done
-    cc -r -nostdlib -o "$work/joined.o" "$work/program.o" "$work/system.o" "$work/native.o" "$kit/c/libos_c.a" "$kit/c/liblibc_c.a"
-    "$work/llvm-objcopy" --keep-global-symbol=matbench_call "$work/joined.o" "$work/matbench.o"
+    "$work/ld.lld" -r -o "$work/joined.o" "$work/program.o" "$work/system.o" "$work/native.o" "$kit/c/libos_c.a" "$kit/c/liblibc_c.a"
+    "$work/llvm-objcopy" --keep-global-symbol=matbench_call --strip-unneeded "$work/joined.o" "$work/matbench.o"
     hold_to "$work/matbench.o" "$allowed" "the program" "the shim does not answer"
     rm -f "$out/libmatbench.a"
     "$work/llvm-ar" crs "$out/libmatbench.a" "$work/matbench.o"
-    cc -shared -pthread -Wl,-soname,libmatbench.so,-z,defs,-z,noexecstack,--gc-sections -o "$out/libmatbench.so" "$work/matbench.o"
-    cp "$bindings/matbench.h" "$out/"
+    build_shared_library
+    copy_header matbench.h
+}
+
+# The shared library, which is linked to the stubs of the C library and to the kit's functions for division.
+build_shared_library() {
+    make_stubs
+    rm -f "$out/libmatbench.so" "$out/libmatbench.so.1"
+    "$work/ld.lld" -shared -soname libmatbench.so.1 --strip-all --gc-sections --build-id=none -z defs -z noexecstack -z relro -z now \
+        -o "$out/libmatbench.so.1" "$work/matbench.o" "$kit/toolchain/lib/libgcc.a" "$work"/stubs/*
+    ln -s libmatbench.so.1 "$out/libmatbench.so"
+    hold_to_glibc 2.5
+}
+
+# Fails where the shared library asks for names of the C library that came after this version of glibc: hold_to_glibc VERSION.
+hold_to_glibc() {
+    asked=$("$work/llvm-nm" -D --undefined-only "$out/libmatbench.so.1" | sed -n 's/.*@GLIBC_//p' | sort -u)
+    [ -n "$asked" ] || fail "libmatbench.so.1 names no version of glibc"
+    newest=$(printf '%s\n' "$asked" "$1" | sort -V | tail -n 1)
+    [ "$newest" = "$1" ] || fail "libmatbench.so.1 asks for names of glibc $newest, which came after $1"
 }
 
 # The static library: one object file that shows matbench_line alone, with the kit's functions of the heap, which call the C library's.
 build_static_library() {
-    cc -r -nostdlib -o "$work/line_joined.o" -Wl,--whole-archive "$1" -Wl,--no-whole-archive "$kit/c/liblibc_c.a"
-    "$work/llvm-objcopy" --keep-global-symbol=matbench_line "$work/line_joined.o" "$work/matbench_line.o"
+    "$work/ld.lld" -r -o "$work/line_joined.o" --whole-archive "$1" --no-whole-archive "$kit/c/liblibc_c.a"
+    "$work/llvm-objcopy" --keep-global-symbol=matbench_line --strip-unneeded "$work/line_joined.o" "$work/matbench_line.o"
     hold_to "$work/matbench_line.o" "$allowed_to_library" "the static library" "it may not"
     rm -f "$out/libmatbench_line.a"
     "$work/llvm-ar" crs "$out/libmatbench_line.a" "$work/matbench_line.o"
-    cp "$bindings/matbench_line.h" "$out/"
+    copy_header matbench_line.h
 }
 
 compile_for_wasm() {
@@ -158,7 +214,7 @@ retarget() {
         -e 's/^target triple = .*/target triple = "wasm64-unknown-unknown"/' \
         -e 's/ "probe-stack"="[^"]*"//; s/ "stack-probe-size"="[^"]*"//; s/ "target-cpu"="[^"]*"//; s/ "target-features"="[^"]*"//' \
         "$work/x86.ll" >"$work/retargeted.ll"
-    compile_for_wasm -mllvm -trap-unreachable -mllvm -expand-div-rem-bits=64 -O3 -x ir "$work/retargeted.ll" -o "$2"
+    compile_for_wasm -mllvm -trap-unreachable -mllvm -expand-div-rem-bits=64 -O2 -x ir "$work/retargeted.ll" -o "$2"
 }
 
 # Links an object file and parts of the shim to a module: link_module OBJECT MODULE PART ..
@@ -166,7 +222,7 @@ link_module() {
     object=$1 module=$2
     shift 2
     parts=$*
-    set -- -std=c11 -O2 -fwrapv -ffreestanding -nostdinc -isystem "$(cc -print-file-name=include)"
+    set -- -std=c11 -O2 -fwrapv -ffreestanding -nostdinc -isystem "$bindings/shim/include"
     for name in $system; do [ "$name" = main ] || set -- "$@" "-Dmatbench_system_$name=$name"; done
     for part in $parts; do compile_for_wasm "$@" "$bindings/shim/$part.c" -o "$work/$part.wasm.o"; done
     set --
@@ -175,6 +231,8 @@ link_module() {
     "$work/llvm-ar" crs "$work/libmodule.a" "$object" "$@"
     "$kit/bin/rattle-link" --target wasm64-unknown-unknown --toolchain "$kit/toolchain" --stack 16777216 -o "$module" \
         "$work/libmodule.a" 2>"$work/linked" || fail "the module cannot be linked: $(cat "$work/linked")"
+    # The names of its functions, which only a debugger reads.
+    "$work/llvm-objcopy" --strip-all "$module"
 }
 
 # The module of the program, which asks its host for one function, and that of the static library, which asks for nothing.
@@ -187,8 +245,11 @@ build_modules() {
     ! grep -q ' imports=[a-z]' "$work/linked" || fail "the module asks for something: $(cat "$work/linked")"
 }
 
+version_of_program=$(sed -n 's/^.*const VERSION: &str = "matbench \([0-9.]*\)\\n";$/\1/p' "$top/crates/mat_main/src/help.rt")
+[ -n "$version_of_program" ] || fail "crates/mat_main/src/help.rt has no constant VERSION"
 mkdir -p "$out"
 link_tools
+compile_shim
 case $# in
     0) build_proved; set -- "$work/mat_main.o" "$work/mat_main.bc" "$work/libmat_c.a" "$work/mat_c.bc"; of="the proved program and the proved library" ;;
     4) of="$*" ;;

@@ -4,6 +4,9 @@
 
 #include <stddef.h>
 
+/* The version of matbench, as --version has it. */
+#define MATBENCH_VERSION "@VERSION@"
+
 #ifdef __cplusplus
 extern "C" {
 #endif
@@ -24,12 +27,14 @@ typedef struct {
 } matbench_buffer;
 
 /* Each answer, certificate, witness, picture and canonical text that a call can write has room in so many bytes, but for the output of batch,
- * which has room in 32 times as many. */
-#define MATBENCH_ROOM 67108864
+ * which has 32 times as many in MATBENCH_BATCH_ROOM. */
+#define MATBENCH_ROOM ((size_t)67108864)
+#define MATBENCH_BATCH_ROOM (32 * MATBENCH_ROOM)
 
 /* What a call answers: the exit status of the program (matbench --help), or MATBENCH_NO_CALL. */
 enum {
-    MATBENCH_NO_CALL = -1, /* a pointer is null that must not be; nothing was read or written, and the lengths stay as they were */
+    MATBENCH_NO_CALL = -1, /* a pointer is null that must not be: nothing is read or written, and the lengths stay as they were; or the processor
+                            * has no x86-64-v2, and the note says so in 134 bytes */
     MATBENCH_DONE = 0,
     MATBENCH_NOT_RIGHT = 1,
     MATBENCH_USAGE = 2,

@@ -5,6 +5,9 @@
 
 #include <stddef.h>
 
+/* The version of matbench, as --version has it. */
+#define MATBENCH_VERSION "@VERSION@"
+
 #ifdef __cplusplus
 extern "C" {
 #endif

@@ -16,5 +16,5 @@ sum_of_others() {
 
 # The files of the release, by their names, one a line.
 list_release() {
-    (cd "$top/release" && find . -type f ! -name '*.sh' | sed 's,^\./,,')
+    (cd "$top/release" && find . -type f ! -name '*.sh' ! -name '*.py' | sed 's,^\./,,')
 }

@@ -4,13 +4,19 @@
 
 #include "../matbench.h"
 
-#ifdef __wasm__
 enum { ENOENT = 2, EBADF = 9, EMFILE = 24, ENOSPC = 28, ESPIPE = 29 };
+#ifdef __wasm__
 extern int errno;
 #define PER_THREAD
 #else
-#include <errno.h>
-#include <setjmp.h>
+/* What <errno.h> and <setjmp.h> of Linux on x86-64 declare. */
+int *__errno_location(void);
+#define errno (*__errno_location())
+typedef struct {
+    unsigned long words[25];
+} jmp_buf[1];
+int _setjmp(jmp_buf place) __attribute__((returns_twice));
+_Noreturn void longjmp(jmp_buf place, int value);
 #define PER_THREAD _Thread_local
 #endif
 

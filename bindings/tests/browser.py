@@ -191,7 +191,9 @@ class Chromium(Browser):
     def press(self, key, control=False):
         """Presses a key, with Control or without it, and lets it go."""
         common = {"key": key, "code": key, "windowsVirtualKeyCode": self.keys[key], "modifiers": 2 if control else 0}
-        self.ask("Input.dispatchKeyEvent", type="keyDown", **common)
+        # A button is pressed by the character that Enter writes.
+        typed = {"text": "\r"} if key == "Enter" and not control else {}
+        self.ask("Input.dispatchKeyEvent", type="keyDown", **common, **typed)
         self.ask("Input.dispatchKeyEvent", type="keyUp", **common)
 
     def choose_file(self, path, selector):

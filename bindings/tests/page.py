@@ -2,12 +2,18 @@
 
 The variable BROWSER names the browser, as browser.py has it. The pictures that it makes lie in bindings/out/pictures/, to be looked at.
 """
+import base64
 import json
+import os
 import pathlib
+import re
+import shutil
+import subprocess
 import sys
 import tempfile
 import time
 import unittest
+import zlib
 
 HERE = pathlib.Path(__file__).resolve().parent
 TOP = HERE.parent.parent
@@ -19,6 +25,7 @@ import pages  # noqa: E402
 
 PICTURES = pages.OUT / "pictures"
 PEOPLE = (TOP / "examples" / "people.txt").read_text()
+FORMATS = (TOP / "docs" / "FORMATS.md").read_text()
 #: A problem whose names have what markup is made of.
 MARKUP = "\n".join(["matroids 2", "rooted 3 3", 'elements a&b <script>x</script> "q"', "vertices A&B <img> &lt;", "root A&B", "arc A&B <img> 3",
                     "arc <img> &lt; 2", "arc A&B &lt; 7", "end", ""])
@@ -41,6 +48,24 @@ def long_problem(unions=64):
     return "\n".join(["matroids 1", f"pair {n}", weights, *unions, "partition 125", *classes, "end", ""])
 
 
+def said_in_formats(note):
+    """What docs/FORMATS.md says of a note that has a row of its own."""
+    row, = [line for line in FORMATS.splitlines() if line.startswith("|") and f"| `{note}` |" in line]
+    return row.rstrip("| ").rsplit("| ", 1)[1]
+
+
+def fragment_of(command, text):
+    """The fragment of a link that holds a problem."""
+    squeeze = zlib.compressobj(9, wbits=-zlib.MAX_WBITS)
+    packed = squeeze.compress(text.encode()) + squeeze.flush()
+    return f"#{command},2,{base64.urlsafe_b64encode(packed).decode().rstrip('=')}"
+
+
+def uniform_pair(n):
+    """A problem whose certificate has as many rungs as there are elements and one more, each with all weights: for 500 more than a MB."""
+    return "\n".join(["matroids 1", f"pair {n}", "weights " + " ".join(str(1000 + e) for e in range(n)), f"uniform {n}", f"uniform {n}", "end", ""])
+
+
 class Page(unittest.TestCase):
     """The page as files from a server."""
 
@@ -54,6 +79,7 @@ class Page(unittest.TestCase):
     def setUp(self):
         self.browser.resize(1100, 900)
         self.open(self.address)
+        self.begin_anew()
 
     def tearDown(self):
         self.assertEqual(self.browser.complaints(), [])
@@ -61,6 +87,11 @@ class Page(unittest.TestCase):
     def open(self, address):
         self.browser.open(address)
         self.browser.wait("document.querySelector('#command').value")
+
+    def begin_anew(self):
+        """Opens the page once more, as in a new tab, where nothing is kept."""
+        self.browser.run("Storage.prototype.setItem = () => {}; sessionStorage.clear()")
+        self.open(self.browser.run("location.href.split('#')[0]"))
 
     def text(self, selector):
         return pages.text(self.browser, selector)
@@ -70,6 +101,31 @@ class Page(unittest.TestCase):
 
     def solve(self):
         pages.click_and_wait(self.browser, "#solve")
+
+    def choose_example(self, name):
+        """Chooses the example of a file."""
+        found = f"[...document.querySelectorAll('#example option')].find((it) => it.textContent.startsWith('{name}:'))"
+        pages.choose(self.browser, "#example", self.browser.run(f"{found}.value"))
+
+    def begin_long_run(self):
+        """Begins a run that takes ten seconds or more, and waits until it is under way."""
+        self.write("#description", long_problem())
+        self.browser.run("document.querySelector('#solve').click()")
+        self.browser.wait("document.querySelector('#time').textContent")
+
+    def load_again(self):
+        """Loads the page again."""
+        self.browser.run("window.isOld = true")
+        self.browser.run("void location.reload()")
+        self.browser.wait("!window.isOld && document.querySelector('#command')?.value")
+
+    def is_at(self, selector):
+        """Whether the focus is at an element."""
+        return self.browser.run(f"document.activeElement === document.querySelector('{selector}')")
+
+    def is_off(self, selector):
+        """Whether a button that keeps the focus does nothing now."""
+        return self.browser.run(f"document.querySelector('{selector}').ariaDisabled === 'true'")
 
     def is_shown(self, *parts):
         """Whether these parts of the page are shown, and of the others that show an answer none."""
@@ -183,8 +239,7 @@ class Use(Page):
         titles = self.browser.run("[...document.querySelectorAll('#example option')].map((it) => it.textContent)")
         self.assertIn("ward_four.txt: who works when", titles)
         self.assertIn("cheap_links.txt: costs instead of gains, and which rung to read", titles)
-        place = self.browser.run("[...document.querySelectorAll('#example option')].find((it) => it.textContent.startsWith('frame.txt')).value")
-        pages.choose(self.browser, "#example", place)
+        self.choose_example("frame.txt")
         self.assertEqual((self.text("#command"), self.text("#count")), ("trees", "6"))
         self.assertTrue(self.browser.run("document.querySelector('#count').checkVisibility()"))
 
@@ -246,28 +301,32 @@ class Use(Page):
         self.write("#answer", (TOP / "examples" / "people_wrong.answer").read_text())
         pages.click_and_wait(self.browser, "#check")
         self.assertEqual(pages.state(self.browser), "The answer is not right.")
-        self.assertRegex(self.text("#answer-fault"), "^no sum 4 6: in rung 4 the two parts of the split do not add up to the weight of element 6.$")
+        meaning = said_in_formats("no sum K E").replace(" K ", " 4 ").replace(" E", " 6")
+        self.assertIn("rung 4", meaning)
+        self.assertIn("element 6", meaning)
+        self.assertEqual(self.text("#answer-fault"), f"no sum 4 6: {meaning}.")
         self.assertTrue(self.is_shown("nothing"))
 
     def test_a_reason_is_that_of_the_variant_of_the_answer(self):
         path = "matroids 1\ngraph 3 2\nedge 0 1\nedge 1 2\nend\n"
         apart = "matroids 1\nrooted 2 1 0\narc 1 0 1\nend\n"
         for problem, certificate, wanted in (
-                (path, "answer trees 2 2\ntree 0 1\ntree 0 1\n", "no overlap 0 0: edge 0 stands in two trees."),
-                (path, "answer trees 2 2 none 3 3\nclass 0\nclass 0 1\nclass 2\n", "no overlap 0 0: vertex 0 stands in two classes."),
-                (apart, "answer arborescence 1 unreached 2\nvertices 0\n", "no root 0 0: the root is on the line."),
-                (apart, "answer disjoint 1 2 none 2\nvertices\n", "no empty 0 0: there are no vertices on the line.")):
+                (path, "answer trees 2 2\ntree 0 1\ntree 0 1\n", ("no overlap 0 0", "edge 0 stands in two trees")),
+                (path, "answer trees 2 2 none 3 3\nclass 0\nclass 0 1\nclass 2\n", ("no overlap 0 0", "vertex 0 stands in two classes")),
+                (apart, "answer arborescence 1 unreached 2\nvertices 0\n", ("no root 0 0", "the root is on the line")),
+                (apart, "answer disjoint 1 2 none 2\nvertices\n", ("no empty 0 0", "there are no vertices on the line"))):
             self.write("#description", problem)
             self.write("#answer", f"certificate 1\n{certificate}end\n")
             pages.click_and_wait(self.browser, "#check")
-            self.assertEqual(self.text("#answer-fault"), wanted)
+            note, meaning = wanted
+            self.assertIn(re.sub(r"\b0\b", "", meaning).split("  ")[-1], FORMATS)
+            self.assertEqual(self.text("#answer-fault"), f"{note}: {meaning}.")
 
     def test_a_long_run_is_timed_and_can_be_stopped(self):
-        self.write("#description", long_problem())
-        self.browser.run("document.querySelector('#solve').click()")
+        self.begin_long_run()
         self.browser.wait("/^[1-9][\\d.]* m?s$/.test(document.querySelector('#time').textContent)")
         self.assertEqual(pages.state(self.browser), "Running")
-        self.assertTrue(self.browser.run("document.querySelector('#solve').disabled"))
+        self.assertTrue(self.is_off("#solve") and self.is_off("#check"))
         self.picture("running")
         pages.click_and_wait(self.browser, "#stop")
         self.assertRegex(pages.state(self.browser), r"^Stopped after [\d.]+ (ms|s)\.$")
@@ -276,14 +335,12 @@ class Use(Page):
         self.assertRegex(pages.state(self.browser), "^Done in")
 
     def test_a_page_that_is_loaded_again_while_it_runs_begins_anew(self):
-        self.write("#description", long_problem())
-        self.browser.run("document.querySelector('#solve').click()")
-        self.browser.wait("document.querySelector('#time').textContent")
-        self.browser.run("window.isOld = true")
-        self.browser.run("void location.reload()")
-        self.browser.wait("!window.isOld && document.querySelector('#command')?.value")
+        self.begin_long_run()
+        self.load_again()
         disabled = "[...document.querySelectorAll('button, select')].filter((it) => it.disabled).map((it) => it.id)"
         self.assertEqual(self.browser.run(disabled), ["stop"])
+        self.assertFalse(self.is_off("#solve") or self.is_off("#check"))
+        self.write("#description", PEOPLE)
         self.solve()
         self.assertRegex(pages.state(self.browser), "^Done in")
 
@@ -335,6 +392,168 @@ class Use(Page):
             }})""")
             self.assertEqual((self.text("#description"), self.text("#count")), (frame, "6"))
 
+    def test_what_is_typed_when_a_link_is_copied_stays(self):
+        typed = self.browser.run("""new Promise((done) => {
+            const description = document.querySelector("#description");
+            document.querySelector("#link").click();
+            const type = () => {
+                if (!location.hash) return setTimeout(type);
+                description.value += "typed";
+                description.dispatchEvent(new Event("input"));
+                setTimeout(() => done(description.value), 500);
+            };
+            type();
+        })""")
+        self.assertEqual(typed, f"{PEOPLE}typed")
+
+    def another_problem_comes(self):
+        """Ways in which another problem comes into the page, each with its text, after it has come."""
+        posts = (TOP / "examples" / "posts.txt").read_text()
+        self.choose_example("posts.txt")
+        yield "an example", posts
+        self.browser.choose_file(TOP / "examples" / "posts.txt", "#open-description")
+        self.browser.wait("document.querySelector('#command').value === 'assign'")
+        yield "a file", posts
+        self.browser.run(f"location.hash = {json.dumps(fragment_of('assign', posts))}")
+        self.browser.wait("document.querySelector('#command').value === 'assign'")
+        yield "a link", posts
+
+    def test_what_was_written_is_brought_back(self):
+        written = "matroids 1\nlist 1 1\nweights 5\nuniform 1\nend\n"
+        ways = self.another_problem_comes()
+        for _ in range(3):
+            self.write("#description", written)
+            way, text = next(ways)
+            self.assertEqual(self.text("#description"), text, way)
+            self.browser.run("document.querySelector('#description-back').click()")
+            self.assertEqual((self.text("#description"), self.text("#command")), (written, "best"), way)
+            self.assertTrue(self.is_at("#description"))
+            self.assertFalse(self.browser.run("document.querySelector('#description-back').checkVisibility()"), way)
+        self.choose_example("posts.txt")
+        self.choose_example("crews.txt")
+        self.browser.run("document.querySelector('#description-back').click()")
+        self.assertEqual(self.text("#description"), written)
+
+    def test_an_example_that_was_not_changed_is_not_brought_back(self):
+        self.choose_example("posts.txt")
+        self.choose_example("crews.txt")
+        self.assertFalse(self.browser.run("document.querySelector('#description-back').checkVisibility()"))
+
+    def test_undo_puts_no_two_descriptions_together(self):
+        self.browser.run("""(() => {
+            document.querySelector("#description").select();
+            for (const text of ["a", "b", "matroids 1\\nlist"]) document.execCommand("insertText", false, text);
+        })()""")
+        self.choose_example("posts.txt")
+        self.browser.run("(document.querySelector('#description').focus(), document.execCommand('undo'))")
+        self.assertEqual(self.text("#description"), (TOP / "examples" / "posts.txt").read_text())
+
+    def test_another_problem_ends_a_run(self):
+        ways = self.another_problem_comes()
+        for _ in range(3):
+            self.begin_long_run()
+            way, text = next(ways)
+            self.browser.wait("document.querySelector('#stop').disabled")
+            self.assertEqual(pages.state(self.browser), "Stopped, since the text is another one now.", way)
+            self.assertEqual((self.text("#description"), self.text("#answer")), (text, ""), way)
+            self.assertTrue(self.is_shown("nothing"), way)
+
+    def test_another_problem_leaves_no_answer_of_the_one_before(self):
+        ways = self.another_problem_comes()
+        for _ in range(3):
+            self.write("#description", PEOPLE)
+            self.solve()
+            self.assertTrue(self.text("#answer").startswith("certificate 1"))
+            way, _ = next(ways)
+            self.assertEqual((self.text("#answer"), pages.state(self.browser)), ("", ""), way)
+            self.assertTrue(self.is_shown("nothing"), way)
+
+    def test_a_certificate_that_was_written_stays(self):
+        wrong = (TOP / "examples" / "people_wrong.answer").read_text()
+        self.write("#answer", wrong)
+        self.choose_example("posts.txt")
+        self.assertEqual(self.text("#answer"), wrong)
+        self.solve()
+        self.assertRegex(pages.state(self.browser), "^Done in")
+        self.browser.run("document.querySelector('#answer-back').click()")
+        self.assertEqual(self.text("#answer"), wrong)
+
+    def test_a_text_is_kept_when_the_page_is_loaded_again(self):
+        frame = (TOP / "examples" / "frame.txt").read_text().replace("end\n", "")
+        self.write("#description", frame)
+        pages.choose(self.browser, "#command", "trees")
+        self.browser.run("document.querySelector('#count').value = 7")
+        self.write("#answer", "certificate 1\n")
+        self.load_again()
+        self.assertEqual([self.text(f"#{it}") for it in ("description", "command", "count", "answer")], [frame, "trees", "7", "certificate 1\n"])
+
+    def test_what_is_kept_gives_way_to_another_link(self):
+        posts = (TOP / "examples" / "posts.txt").read_text()
+        self.open(self.address + fragment_of("assign", posts))
+        self.browser.wait("document.querySelector('#command').value === 'assign'")
+        self.write("#description", posts + "typed")
+        self.load_again()
+        self.assertEqual(self.text("#description"), posts + "typed")
+        self.open(self.address + fragment_of("intersect", PEOPLE))
+        self.browser.wait("document.querySelector('#command').value === 'intersect'")
+        self.assertEqual(self.text("#description"), PEOPLE)
+
+    def test_of_a_long_text_the_front_is_shown(self):
+        text = "\n" * 2**20
+        fragment = fragment_of("intersect", text)
+        self.assertLess(len(fragment), 1500)
+        self.open(self.address + fragment)
+        self.browser.wait("document.querySelector('#description-part').textContent")
+        self.assertTrue(self.text("#description-part").startswith("The first 10,000 of 1,048,576 lines are shown"))
+        self.assertEqual(self.text("#description"), "\n" * 10_000)
+        self.assertEqual(self.saved("#save-description", "description.txt").decode(), text)
+        self.picture("long")
+        self.browser.run("document.querySelector('#description-part button').click()")
+        self.assertEqual((self.text("#description"), self.text("#description-part")), ("", ""))
+        self.write("#description", PEOPLE)
+        self.solve()
+        self.assertRegex(pages.state(self.browser), "^Done in")
+
+    def test_a_long_text_is_pasted(self):
+        text = "matroids 1\n" * 20_000
+        self.browser.run(f"""(() => {{
+            const clipboardData = new DataTransfer();
+            clipboardData.setData("text/plain", {json.dumps(text)});
+            const description = document.querySelector("#description");
+            description.setSelectionRange(0, 0);
+            description.dispatchEvent(new ClipboardEvent("paste", {{ clipboardData, cancelable: true }}));
+        }})()""")
+        self.assertEqual(self.text("#description"), text[:110_000])
+        self.assertEqual(self.saved("#save-description", "description.txt").decode(), text + PEOPLE)
+
+    def test_a_long_certificate_is_checked_and_saved_whole(self):
+        problem = uniform_pair(500)
+        certificate = matbench.intersect(problem).certificate
+        self.assertGreater(len(certificate), 1_000_000)
+        self.write("#description", problem)
+        self.solve()
+        self.assertRegex(pages.state(self.browser), "^Done in")
+        self.assertLessEqual(len(self.text("#answer")), 1_000_000)
+        self.assertTrue(certificate.startswith(self.text("#answer")))
+        self.assertEqual(self.saved("#save-answer", "intersect.answer").decode(), certificate)
+        pages.click_and_wait(self.browser, "#check")
+        self.assertTrue(pages.state(self.browser).startswith("yes: the answer is right."))
+
+    def test_a_fault_that_is_not_shown_is_told(self):
+        n, shown = 500, 10_000
+        head = ["matroids 1", f"list {n} {shown}", "weights" + " 1" * n]
+        text = "\n".join([*head, *["uniform 1"] * (2 * shown), "end", ""])
+        with tempfile.NamedTemporaryFile("w", suffix=".txt") as file:
+            file.write(text)
+            file.flush()
+            self.browser.choose_file(file.name, "#open-description")
+            self.browser.wait("document.querySelector('#description-part').textContent")
+        self.solve()
+        fault = self.text("#description-fault")
+        self.assertRegex(fault, "^Line [0-9]+, ")
+        line = int(re.search("[0-9]+", fault)[0])
+        self.assertEqual("Go to line" in fault, line <= shown)
+
     def test_an_answer_and_its_picture_are_saved_as_they_are(self):
         self.solve()
         self.assertEqual(self.saved("#save-answer", "intersect.answer").decode(), self.text("#answer"))
@@ -351,11 +570,33 @@ class Use(Page):
             order.append(self.browser.run("document.activeElement.id || document.activeElement.parentElement.id"))
         self.assertEqual(order, ["command", "description", "solve", "open-description", "save-description", "link", "picture", "save-picture",
                                  "answer", "check", "open-answer", "save-answer"])
-        self.write("#description", long_problem())
-        self.browser.run("document.querySelector('#solve').click()")
-        self.browser.wait("document.querySelector('#time').textContent")
+        self.begin_long_run()
         self.browser.press("Escape")
         self.browser.wait("document.querySelector('#state').textContent.startsWith('Stopped')")
+
+    def test_the_keyboard_keeps_its_place(self):
+        for button in ("#solve", "#check"):
+            self.browser.run(f"document.querySelector('{button}').focus()")
+            self.browser.press("Enter")
+            self.browser.wait("document.querySelector('.told p')?.checkVisibility() && document.querySelector('#stop').disabled")
+            self.assertTrue(self.is_at(button))
+            self.write("#answer", self.text("#answer"))
+        self.write("#description", long_problem())
+        self.browser.run("document.querySelector('#solve').focus()")
+        self.browser.press("Enter")
+        self.browser.wait("document.querySelector('#time').textContent")
+        self.assertTrue(self.is_at("#solve"))
+        self.browser.press("Enter")
+        self.assertEqual(pages.state(self.browser), "Running")
+        self.browser.run("document.querySelector('#stop').focus()")
+        self.browser.press("Enter")
+        self.browser.wait("document.querySelector('#state').textContent.startsWith('Stopped')")
+        self.assertTrue(self.is_at("#solve"))
+
+    def test_it_says_which_version_it_is(self):
+        version = matbench.call(["--version"], {}).output.decode().strip()
+        self.assertRegex(version, r"^matbench [0-9]+\.[0-9]+\.[0-9]+$")
+        self.assertIn(f"{version}, made of the proved program.", self.text("footer"))
 
     def test_everything_that_is_used_has_a_name_and_a_role(self):
         self.solve()
@@ -450,6 +691,67 @@ class BadUse(Page):
             self.browser.wait("document.querySelector('#unable').textContent")
         self.assertTrue(self.browser.run("document.querySelector('#solve').disabled"))
         self.browser.forget()
+
+
+class OneFile(Page):
+    """The page as one file from a folder."""
+
+    def setUp(self):
+        self.browser.resize(1100, 900)
+        self.open(pages.ONE_FILE)
+        self.begin_anew()
+
+    def test_it_is_small(self):
+        self.assertLess(pages.PAGE.stat().st_size, 700_000)
+
+    def test_the_same_files_give_the_same_bytes(self):
+        for seed in ("1", "2"):
+            with tempfile.TemporaryDirectory() as folder:
+                shutil.copy(pages.OUT / "matbench.wasm", folder)
+                build = [sys.executable, HERE.parent / "web" / "build_page.py", TOP, folder]
+                subprocess.run(build, check=True, cwd=folder, env={**os.environ, "PYTHONHASHSEED": seed})
+                self.assertEqual(pathlib.Path(folder, "matbench.html").read_bytes(), pages.PAGE.read_bytes())
+
+    def test_it_solves(self):
+        self.assertEqual(self.text("#description"), PEOPLE)
+        self.solve()
+        self.assertIn("BEST: 4 elements, weight 25.", self.text("#words"))
+        self.assertEqual(self.text("#answer"), matbench.intersect(PEOPLE).certificate)
+        self.picture("one_file")
+
+    def test_it_makes_a_link_and_keeps_a_text(self):
+        self.browser.run("document.querySelector('#link').click()")
+        self.browser.wait("location.hash.startsWith('#intersect,2,')")
+        self.write("#description", PEOPLE + "typed")
+        self.load_again()
+        self.assertEqual(self.text("#description"), PEOPLE + "typed")
+        self.open(self.browser.run("location.href"))
+        self.assertIn(PEOPLE, self.text("#description"))
+
+
+class Old(Page):
+    """The page as one file in a browser that cannot unpack it."""
+
+    def test_it_says_what_is_needed(self):
+        self.browser.run_before_pages("delete globalThis.DecompressionStream;")
+        self.browser.open(pages.ONE_FILE)
+        self.browser.wait("document.querySelector('#unable').textContent")
+        self.assertIn("DecompressionStream", self.text("#unable"))
+        self.browser.forget()
+
+
+class Forgetful(Page):
+    """The page in a browser that lets it keep nothing."""
+
+    def test_it_begins_with_the_example_again(self):
+        self.browser.run_before_pages("""Object.defineProperty(globalThis, "sessionStorage", {
+            get() { throw new DOMException("it is not allowed", "SecurityError"); } });""")
+        self.open(self.address)
+        self.write("#description", PEOPLE + "typed")
+        self.load_again()
+        self.assertEqual(self.text("#description"), PEOPLE)
+        self.solve()
+        self.assertRegex(pages.state(self.browser), "^Done in")
 
 
 class Narrow(Page):

@@ -9,8 +9,9 @@ import threading
 import browser as browsers
 
 OUT = pathlib.Path(__file__).resolve().parent.parent / "out"
-#: The address of the page that is one file.
-ONE_FILE = (OUT / "matbench.html").as_uri()
+#: The page that is one file, and its address.
+PAGE = OUT / "matbench.html"
+ONE_FILE = PAGE.as_uri()
 #: The paths that the servers of the page were asked for.
 ASKED = []
 

@@ -1,12 +1,21 @@
-"""Tests of the Python module: what its answers, exceptions and descriptions are. That its bytes are the program's, answers.py tests."""
+"""Tests of the Python package: what its answers, exceptions and descriptions are.
+
+That its bytes are the program's, answers.py tests.
+"""
+import _ctypes
+import os
 import pathlib
 import pickle
+import re
 import resource
+import shutil
 import subprocess
 import sys
+import tempfile
 import threading
 import traceback
 import unittest
+import unittest.mock
 import xml.etree.ElementTree
 
 HERE = pathlib.Path(__file__).resolve().parent
@@ -24,6 +33,56 @@ PATH = "matroids 1\ngraph 3 2\nedge 0 1\nedge 1 2\nend\n"
 TOWNS = EXAMPLES / "towns.txt"
 
 
+class Library(unittest.TestCase):
+    """Where the library is looked for, and what is told where it is not there."""
+
+    def told(self, folder=HERE.parent, library=None):
+        """What a first call of the package in a folder raises, by its name and in words."""
+        script = ("import matbench\n"
+                  "try: matbench.version()\n"
+                  "except OSError as error: print(type(error).__name__, error, sep=': ')\n")
+        settings = {key: it for key, it in os.environ.items() if key != "MATBENCH_LIBRARY"}
+        if library:
+            settings["MATBENCH_LIBRARY"] = str(library)
+        done = subprocess.run([sys.executable, "-c", script], cwd=folder, env=settings,
+                              capture_output=True, text=True, check=False)
+        self.assertEqual(done.stderr, "")
+        return done.stdout
+
+    def test_a_missing_library_is_told_with_where_it_may_be(self):
+        with tempfile.TemporaryDirectory() as folder:
+            shutil.copytree(HERE.parent / "matbench", f"{folder}/matbench")
+            told = self.told(folder)
+        self.assertRegex(told, "^NoLibrary: there is no libmatbench.so in ")
+        for word in (f"{folder}/matbench,", f"{folder}/out", "build.sh", "MATBENCH_LIBRARY"):
+            self.assertIn(word, told)
+
+    def test_a_library_that_is_named_and_missing_is_told(self):
+        told = self.told(library="/nowhere/it.so")
+        self.assertRegex(told, "^NoLibrary: .*MATBENCH_LIBRARY names /nowhere/it.so, and there is")
+
+    def test_what_is_no_library_of_matbench_is_told(self):
+        told = self.told(library=EXAMPLES / "people.txt")
+        self.assertRegex(told, "^NoLibrary: .*people.txt cannot be loaded: it is for Linux")
+        told = self.told(library=_ctypes.__file__)
+        self.assertRegex(told, "^NoLibrary: .* it has no matbench_call")
+
+    def test_the_library_is_found_beside_the_package_and_in_it(self):
+        for place in ("libmatbench.so", "out/libmatbench.so", "matbench/libmatbench.so"):
+            with self.subTest(place=place), tempfile.TemporaryDirectory() as folder:
+                shutil.copytree(HERE.parent / "matbench", f"{folder}/matbench")
+                os.makedirs(f"{folder}/out")
+                shutil.copy(HERE.parent / "out" / "libmatbench.so", f"{folder}/{place}")
+                self.assertEqual(self.told(folder), "")
+
+    def test_the_version_is_that_of_the_source(self):
+        source = HERE.parent.parent / "crates" / "mat_main" / "src" / "help.rt"
+        wanted = re.search(r'VERSION: &str = "matbench ([0-9.]+)\\n"', source.read_text())[1]
+        self.assertEqual(matbench.__version__, wanted)
+        with self.assertRaises(AttributeError):
+            matbench.__versoin__
+
+
 class Answers(unittest.TestCase):
     """What the commands answer."""
 
@@ -31,7 +90,8 @@ class Answers(unittest.TestCase):
         answer = matbench.intersect(EXAMPLES / "people.txt")
         self.assertEqual([rung.weight for rung in answer.rungs], [0, 8, 15, 22, 25, 23])
         self.assertEqual(answer.best.members, (0, 3, 4, 6))
-        self.assertEqual([a + b for a, b in zip(answer.best.first, answer.best.second)], [8, 5, 2, 6, 7, 7, 4, 3, -2])
+        sums = [a + b for a, b in zip(answer.best.first, answer.best.second)]
+        self.assertEqual(sums, [8, 5, 2, 6, 7, 7, 4, 3, -2])
         self.assertEqual(answer.cut, ())
         self.assertTrue(matbench.check(EXAMPLES / "people.txt", answer))
 
@@ -58,13 +118,15 @@ class Answers(unittest.TestCase):
 
     def test_union_has_a_part_for_each_matroid_and_levels(self):
         answer = matbench.union("matroids 1\nlist 3 2\nweights 5 5 2\nuniform 1\nuniform 1\nend\n")
-        self.assertEqual((answer.weight, len(answer.parts), answer.levels[1]), (10, 2, matbench.Level(2, (0, 1, 2))))
+        self.assertEqual((answer.weight, len(answer.parts)), (10, 2))
+        self.assertEqual(answer.levels[1], matbench.Level(2, (0, 1, 2)))
 
     def test_packing_and_covering_have_both_their_ends(self):
         none = "matroids 1\nlist 1 1\nweights 1\nuniform 0\nend\n"
         self.assertEqual((matbench.pack(none).bases, matbench.cover(none).uncovered), (None, (0,)))
         all_of = "matroids 1\nlist 2 1\nweights 1 1\nuniform 1\nend\n"
-        self.assertEqual((matbench.pack(all_of).bases, matbench.cover(all_of).parts), (((0,), (1,)), ((0,), (1,))))
+        self.assertEqual(matbench.pack(all_of).bases, ((0,), (1,)))
+        self.assertEqual(matbench.cover(all_of).parts, ((0,), (1,)))
 
     def test_trees_or_classes(self):
         self.assertEqual(matbench.trees(PATH, 1).trees, ((0, 1),))
@@ -72,7 +134,8 @@ class Answers(unittest.TestCase):
         self.assertEqual(matbench.trees(PATH, 2).classes, ((0,), (1,), (2,)))
 
     def test_arcs_or_unreached_vertices(self):
-        apart = "matroids 2\nrooted 2 1\nelements back\nvertices here there\nroot here\narc there here 1\nend\n"
+        apart = ("matroids 2\nrooted 2 1\nelements back\nvertices here there\nroot here\n"
+                 "arc there here 1\nend\n")
         for answer in (matbench.arborescence(apart), matbench.cuts(apart)):
             self.assertEqual((answer.arcs, answer.unreached), (None, ("there",)))
         self.assertEqual(matbench.disjoint(apart, 1).entered, ("there",))
@@ -96,27 +159,32 @@ class Answers(unittest.TestCase):
         answer = matbench.intersect(problem)
         text = matbench.witness(problem, answer, 4)
         self.assertTrue(matbench.verify(problem, answer, 4, text))
-        wrong = "".join("sets\n" if line.startswith("sets ") else line for line in text.splitlines(keepends=True))
+        wrong = re.sub("^sets .*$", "sets", text, flags=re.M)
         verdict = matbench.verify(problem, answer, 4, wrong)
         self.assertEqual((bool(verdict), verdict.note), (False, "no witness 3 0"))
 
     def test_an_answer_is_told_and_drawn(self):
-        for command, problem, result in ((matbench.intersect, EXAMPLES / "people.txt", "BEST: 4 elements, weight 25."),
-                                         (matbench.arborescence, TOWNS, "BEST: 3 arcs, cost 9."),
-                                         (lambda it: matbench.trees(it, 2), PATH, "NONE: it cannot be done.")):
+        for command, problem, result in (
+                (matbench.intersect, EXAMPLES / "people.txt", "BEST: 4 elements, weight 25."),
+                (matbench.arborescence, TOWNS, "BEST: 3 arcs, cost 9."),
+                (lambda it: matbench.trees(it, 2), PATH, "NONE: it cannot be done.")):
             with self.subTest(result=result):
                 answer = command(problem)
                 self.assertIn(f"\n{result}\n", answer.told())
-                self.assertIn(result, "".join(xml.etree.ElementTree.fromstring(answer.picture()).itertext()))
-                self.assertEqual((answer.told(), answer.picture()), (matbench.tell(problem, answer), matbench.picture(problem, answer.certificate)))
+                drawn = xml.etree.ElementTree.fromstring(answer.picture())
+                self.assertIn(result, "".join(drawn.itertext()))
+                self.assertEqual(answer.told(), matbench.tell(problem, answer))
+                self.assertEqual(answer.picture(), matbench.picture(problem, answer.certificate))
                 self.assertEqual(answer._repr_svg_(), answer.picture())
         self.assertIsNone(matbench.cuts(TOWNS)._repr_svg_())
 
     def test_names_with_markup_stand_in_both(self):
         names = ["a&b", "<script>", '"q"', "&lt;", "]]>"]
-        problem = f"matroids 2\nlist 5 1\nelements {' '.join(names)}\nweights 5 4 3 2 1\nuniform 4\nend\n"
+        problem = (f"matroids 2\nlist 5 1\nelements {' '.join(names)}\nweights 5 4 3 2 1\n"
+                   "uniform 4\nend\n")
         answer = matbench.best(problem)
-        texts = [it.text for it in xml.etree.ElementTree.fromstring(answer.picture()).iter() if it.text]
+        drawn = xml.etree.ElementTree.fromstring(answer.picture())
+        texts = [it.text for it in drawn.iter() if it.text]
         for name in names[:4]:
             self.assertIn(name, texts)
             self.assertIn(name, answer.told())
@@ -125,7 +193,8 @@ class Answers(unittest.TestCase):
         self.assertEqual(matbench.show(PATH), PATH)
         self.assertIn("elements e0 e1\n", matbench.convert(PATH))
         self.assertRegex(matbench.version(), r"^matbench \d+\.\d+\.\d+$")
-        self.assertEqual(matbench.sample("pair", 2, 1), "sample pair 2 1 size 1 weight 756 ladder 756 accepted")
+        self.assertEqual(matbench.sample("pair", 2, 1),
+                         "sample pair 2 1 size 1 weight 756 ladder 756 accepted")
 
 
 class Refusals(unittest.TestCase):
@@ -135,16 +204,19 @@ class Refusals(unittest.TestCase):
         with self.assertRaises(matbench.BadDescription) as found:
             matbench.intersect("matroids 1\npair x\nend\n")
         error = found.exception
-        self.assertEqual((error.status, error.kind, error.name, error.line), (3, 4, "NumberSpelling", 2))
-        self.assertEqual((error.note, str(error)), ("refused: description 4 NumberSpelling line 2",) * 2)
+        self.assertEqual((error.status, error.kind), (3, 4))
+        self.assertEqual((error.name, error.line), ("NumberSpelling", 2))
+        note = "refused: description 4 NumberSpelling line 2"
+        self.assertEqual((error.note, str(error)), (note, note))
         self.assertIsInstance(error, ValueError)
 
     def test_an_exception_comes_whole_from_another_process(self):
         with self.assertRaises(matbench.BadDescription) as found:
             matbench.intersect("matroids 1\npair x\nend\n")
         error = pickle.loads(pickle.dumps(found.exception))
-        self.assertEqual((type(error), str(error), error.status, error.line),
-                         (matbench.BadDescription, "refused: description 4 NumberSpelling line 2", 3, 2))
+        self.assertIs(type(error), matbench.BadDescription)
+        self.assertEqual(str(error), "refused: description 4 NumberSpelling line 2")
+        self.assertEqual((error.status, error.line), (3, 2))
 
     def test_a_letter_beyond_ascii_is_refused_by_its_line(self):
         with self.assertRaises(matbench.BadDescription) as found:
@@ -181,20 +253,28 @@ class Refusals(unittest.TestCase):
             self.assertEqual(matbench.call([word, "f", "c"], {"f": PATH.encode()}).status, 5)
 
     def test_each_refusal_has_its_exception(self):
-        people = EXAMPLES / "people.txt"
-        cases = [(matbench.UsageError, lambda: matbench.trees(PATH, 65)), (matbench.BadCertificate, lambda: matbench.check(people, "x")),
-                 (matbench.WrongShape, lambda: matbench.best(people)), (matbench.TooLong, lambda: matbench.show("x" * 4194305)),
-                 (matbench.BadWitness, lambda: matbench.verify(people, matbench.intersect(people), 4, "x")),
-                 (matbench.BadCost, lambda: matbench.cuts("matroids 1\nrooted 2 1 0\narc 0 1 -1\nend\n")),
-                 (matbench.Unwitnessed, lambda: matbench.witness(EXAMPLES / "tasks.txt", matbench.intersect(EXAMPLES / "tasks.txt"), 1)),
-                 (ValueError, lambda: matbench.sample("pair\0", 1, 1)), (ValueError, lambda: matbench.call(["show", "f"], {"f\0": b""})),
-                 (ValueError, lambda: matbench.call(["show", "f"], {"f": b""}, room=-1)), (FileNotFoundError, lambda: matbench.show(pathlib.Path("nowhere")))]
+        people, tasks = EXAMPLES / "people.txt", EXAMPLES / "tasks.txt"
+        cost = "matroids 1\nrooted 2 1 0\narc 0 1 -1\nend\n"
+        cases = [
+            (matbench.UsageError, lambda: matbench.trees(PATH, 65)),
+            (matbench.BadCertificate, lambda: matbench.check(people, "x")),
+            (matbench.WrongShape, lambda: matbench.best(people)),
+            (matbench.TooLong, lambda: matbench.show("x" * 4194305)),
+            (matbench.BadWitness,
+             lambda: matbench.verify(people, matbench.intersect(people), 4, "x")),
+            (matbench.BadCost, lambda: matbench.cuts(cost)),
+            (matbench.Unwitnessed, lambda: matbench.witness(tasks, matbench.intersect(tasks), 1)),
+            (ValueError, lambda: matbench.sample("pair\0", 1, 1)),
+            (ValueError, lambda: matbench.call(["show", "f"], {"f\0": b""})),
+            (ValueError, lambda: matbench.call(["show", "f"], {"f": b""}, room=-1)),
+            (FileNotFoundError, lambda: matbench.show(pathlib.Path("nowhere")))]
         for error, run in cases:
             with self.subTest(error=error), self.assertRaises(error):
                 run()
 
     def test_the_name_of_a_file_is_no_text(self):
-        for run in (lambda: matbench.intersect("people.txt"), lambda: matbench.check(EXAMPLES / "people.txt", "people.answer"),
+        for run in (lambda: matbench.intersect("people.txt"),
+                    lambda: matbench.check(EXAMPLES / "people.txt", "people.answer"),
                     lambda: matbench.batch([("intersect", "people.txt")])):
             with self.assertRaises(matbench.FaultyText) as found:
                 run()
@@ -205,7 +285,8 @@ class Refusals(unittest.TestCase):
 
     def test_what_is_neither_a_text_nor_a_path_is_a_type_error(self):
         for it in (5, None, [PATH]):
-            with self.subTest(it=it), self.assertRaisesRegex(TypeError, f"not a {type(it).__name__}"):
+            kind = type(it).__name__
+            with self.subTest(it=it), self.assertRaisesRegex(TypeError, f"not a {kind}"):
                 matbench.intersect(it)
         with self.assertRaisesRegex(TypeError, "not a int"):
             matbench.graph_description(3)
@@ -218,11 +299,57 @@ class Refusals(unittest.TestCase):
             with self.subTest(job=job), self.assertRaisesRegex(TypeError, "job 1 is no tuple"):
                 matbench.batch([("trees", PATH, 1), job])
 
+    def test_a_job_has_no_line_end_in_its_words(self):
+        people = EXAMPLES / "people.txt"
+        for job in (("intersect f0\njob intersect", people), ("best\n", people), ("", people),
+                    ("trees", PATH, "2 f0\njob trees 1")):
+            with self.subTest(job=job), self.assertRaises(matbench.BadList) as found:
+                matbench.batch([("intersect", people), job])
+            self.assertEqual(found.exception.note, "refused: list line 3")
+            self.assertIn("neither a command nor a count", str(found.exception))
+
+    def test_many_jobs_need_no_more_address_space_than_their_answers(self):
+        script = ("import matbench, pathlib, resource\n"
+                  "resource.setrlimit(resource.RLIMIT_AS, (1 << 30, 1 << 30))\n"
+                  "jobs = [('intersect', pathlib.Path('../examples/people.txt'))] * 32\n"
+                  "print(len(matbench.batch(jobs)))\n")
+        done = subprocess.run([sys.executable, "-c", script], cwd=HERE.parent, capture_output=True,
+                              text=True, check=False)
+        self.assertEqual((done.stdout, done.stderr), ("32\n", ""))
+
+    def test_jobs_whose_answers_need_more_room_than_one_get_it(self):
+        jobs = [("intersect", EXAMPLES / "people.txt")] * 3
+        length = len(matbench.intersect(EXAMPLES / "people.txt").certificate)
+        for room in (length, length + 100):
+            with self.subTest(room=room), unittest.mock.patch("matbench.batches.ROOM", room):
+                self.assertEqual(len(matbench.batch(jobs)), 3)
+        with unittest.mock.patch("matbench.batches.ROOM", length - 1):
+            with self.assertRaises(matbench.WriteFault):
+                matbench.batch(jobs)
+
+    def test_a_file_that_is_too_long_is_not_read_whole(self):
+        script = ("import matbench, pathlib, resource, sys\n"
+                  "resource.setrlimit(resource.RLIMIT_AS, (1 << 29, 1 << 29))\n"
+                  "long, people = map(pathlib.Path, sys.argv[1:])\n"
+                  "for run in (lambda: matbench.show(long), lambda: matbench.check(people, long),\n"
+                  "            lambda: matbench.read_answer(people, long)):\n"
+                  "    try: run()\n"
+                  "    except matbench.TooLong as error: print(error.status, error)\n")
+        with tempfile.NamedTemporaryFile() as file:
+            file.truncate(1 << 30)
+            people = str(EXAMPLES / "people.txt")
+            done = subprocess.run([sys.executable, "-c", script, file.name, people],
+                                  cwd=HERE.parent, capture_output=True, text=True, check=False)
+        wanted = "".join(f"8 refused: too long: {file.name} has more than {most} bytes\n"
+                         for most in ("4,194,304", "67,108,864", "67,108,864"))
+        self.assertEqual((done.stdout, done.stderr), (wanted, ""))
+
     def test_a_certificate_may_be_a_file_or_bytes(self):
         people = EXAMPLES / "people.txt"
         answer = matbench.intersect(people)
         self.assertEqual(matbench.read_answer(people, answer.certificate.encode()), answer)
-        self.assertEqual(matbench.read_answer(people, EXAMPLES / "people_wrong.answer").rungs[4].weight, 25)
+        wrong = matbench.read_answer(people, EXAMPLES / "people_wrong.answer")
+        self.assertEqual(wrong.rungs[4].weight, 25)
 
     def test_a_weight_without_a_tie_is_an_int(self):
         with self.assertRaisesRegex(ValueError, "an int: 3"):
@@ -230,13 +357,20 @@ class Refusals(unittest.TestCase):
 
     def test_a_buffer_that_is_too_small_is_a_write_fault(self):
         ended = matbench.call(["show", "f"], {"f": PATH.encode()}, room=5)
-        self.assertEqual((ended.status, ended.output, ended.note), (6, b"matro", "refused: write fault"))
+        self.assertEqual((ended.status, ended.output), (6, b"matro"))
+        self.assertEqual(ended.note, "refused: write fault")
 
     def test_no_memory_is_an_exception(self):
-        script = ("import matbench, resource\nmatbench.version()\nresource.setrlimit(resource.RLIMIT_AS, (200_000_000, 200_000_000))\n"
-                  "held = []\ntry:\n while True: held.append(bytearray(1 << 20))\nexcept MemoryError: held.pop()\n"
-                  "try: matbench.sample('pair', 500, 1)\nexcept matbench.OutOfMemory as error: print(error.status, error.note)\n")
-        done = subprocess.run([sys.executable, "-c", script], cwd=HERE.parent, capture_output=True, text=True, check=False)
+        script = ("import matbench, resource\n"
+                  "matbench.version()\n"
+                  "resource.setrlimit(resource.RLIMIT_AS, (200_000_000, 200_000_000))\n"
+                  "held = []\n"
+                  "try:\n while True: held.append(bytearray(1 << 20))\n"
+                  "except MemoryError: held.pop()\n"
+                  "try: matbench.sample('pair', 500, 1)\n"
+                  "except matbench.OutOfMemory as error: print(error.status, error.note)\n")
+        done = subprocess.run([sys.executable, "-c", script], cwd=HERE.parent, capture_output=True,
+                              text=True, check=False)
         self.assertEqual((done.stdout, done.stderr), ("7 refused: memory\n", ""))
 
     def test_calls_at_once_in_several_threads_are_independent(self):
@@ -276,7 +410,8 @@ class Graphs(unittest.TestCase):
         for tree in answer.trees:
             self.assertTrue(networkx.is_tree(graph.edge_subgraph(tree)))
         self.assertTrue(matbench.check(problem, answer))
-        self.assertEqual({node for part in matbench.trees(problem, 3).classes for node in part}, set(graph.nodes))
+        nodes = {node for part in matbench.trees(problem, 3).classes for node in part}
+        self.assertEqual(nodes, set(graph.nodes))
 
     def test_arborescences_are_the_cheapest(self):
         graph = networkx.gnp_random_graph(12, 0.4, seed=3, directed=True)
@@ -285,7 +420,8 @@ class Graphs(unittest.TestCase):
         graph.remove_edges_from(list(graph.in_edges(0)))
         problem = matbench.rooted_description(graph, 0, cost="cost")
         wanted = networkx.minimum_spanning_arborescence(graph, attr="cost").size(weight="cost")
-        self.assertEqual((matbench.arborescence(problem).cost, matbench.cuts(problem).cost), (wanted, wanted))
+        self.assertEqual(matbench.arborescence(problem).cost, wanted)
+        self.assertEqual(matbench.cuts(problem).cost, wanted)
 
     def test_parallel_edges_have_keys(self):
         graph = networkx.MultiGraph([("a", "b"), ("a", "b")])
@@ -296,16 +432,19 @@ class Graphs(unittest.TestCase):
         graph = networkx.Graph()
         graph.add_weighted_edges_from([("Ada", "till", 5), ("Ada", "door", 4), ("till", "Ben", 4)])
         answer = matbench.assign(matbench.table_description(graph, ["Ada", "Ben"]))
-        self.assertEqual(answer.best.weight, graph.edge_subgraph(answer.best.members).size(weight="weight"))
+        matched = graph.edge_subgraph(answer.best.members)
+        self.assertEqual(answer.best.weight, matched.size(weight="weight"))
         self.assertEqual(answer.best.weight, 8)
         self.assertEqual(sorted(answer.best.members), [("Ada", "door"), ("Ben", "till")])
-        self.assertEqual(matbench.table_description(graph, ["Ada", "Ben", "Ada"]), matbench.table_description(graph, ["Ada", "Ben"]))
+        self.assertEqual(matbench.table_description(graph, ["Ada", "Ben", "Ada"]),
+                         matbench.table_description(graph, ["Ada", "Ben"]))
         with self.assertRaises(ValueError):
             matbench.table_description(graph, ["Ada", "till"])
 
     def test_rainbow_forests_have_different_colours(self):
         graph = networkx.Graph()
-        for u, v, colour in (("a", "b", "red"), ("b", "c", "red"), ("a", "c", "blue"), ("c", "d", "red")):
+        for u, v, colour in (("a", "b", "red"), ("b", "c", "red"), ("a", "c", "blue"),
+                             ("c", "d", "red")):
             graph.add_edge(u, v, colour=colour)
         answer = matbench.rainbow(matbench.coloured_description(graph))
         colours = [graph.edges[edge]["colour"] for edge in answer.best.members]
@@ -317,7 +456,8 @@ class Graphs(unittest.TestCase):
         for place, (_, _, data) in enumerate(graph.edges(data=True)):
             data["weight"] = 1 + (5 * place) % 13
         answer = matbench.best(matbench.forests_description(graph))
-        self.assertEqual(answer.best.weight, networkx.maximum_spanning_tree(graph).size(weight="weight"))
+        wanted = networkx.maximum_spanning_tree(graph).size(weight="weight")
+        self.assertEqual(answer.best.weight, wanted)
 
     def test_as_many_spanning_trees_are_packed_as_there_are(self):
         graph = networkx.gnp_random_graph(15, 0.5, seed=1)
@@ -345,11 +485,70 @@ class Graphs(unittest.TestCase):
     def test_a_graph_may_have_no_edges(self):
         graph = networkx.Graph()
         graph.add_nodes_from("ab")
-        self.assertEqual(matbench.trees(matbench.graph_description(graph), 1).classes, (("a",), ("b",)))
+        answer = matbench.trees(matbench.graph_description(graph), 1)
+        self.assertEqual(answer.classes, (("a",), ("b",)))
         self.assertEqual(matbench.best(matbench.forests_description(graph)).best.members, ())
         self.assertEqual(matbench.assign(matbench.table_description(graph, "a")).best.members, ())
         self.assertEqual(matbench.rainbow(matbench.coloured_description(graph)).best.members, ())
-        self.assertEqual(matbench.arborescence(matbench.rooted_description(graph.to_directed(), "a")).unreached, ("b",))
+        rooted = matbench.rooted_description(graph.to_directed(), "a")
+        self.assertEqual(matbench.arborescence(rooted).unreached, ("b",))
+
+    def hold_to_sentence(self, sentence, line, run):
+        """A call raises what the program says of a number in a line, with a sentence."""
+        with self.assertRaises(matbench.BadDescription) as found:
+            run()
+        error = found.exception
+        note = f"refused: description 5 NumberRange line {line}"
+        self.assertEqual((error.name, error.line, error.note), ("NumberRange", line, note))
+        self.assertEqual(str(error), f"{note}: {sentence}")
+        self.assertEqual(str(pickle.loads(pickle.dumps(error))), str(error))
+
+    def test_too_many_nodes_or_none_are_told_in_words(self):
+        makers = [(matbench.graph_description, networkx.Graph, 2),
+                  (matbench.coloured_description, networkx.Graph, 2),
+                  (matbench.forests_description, networkx.Graph, 5),
+                  (lambda graph: matbench.rooted_description(graph, 0), networkx.DiGraph, 2)]
+        for make, kind, line in makers:
+            graph = kind()
+            graph.add_nodes_from(range(501))
+            with self.subTest(make=make):
+                sentence = "the graph has 501 nodes, and a description has from 1 to 500"
+                self.hold_to_sentence(sentence, line, lambda: make(graph))
+        for make, kind, line in makers[:3]:
+            with self.subTest(make=make):
+                sentence = "the graph has 0 nodes, and a description has from 1 to 500"
+                self.hold_to_sentence(sentence, line, lambda: make(kind()))
+
+    def test_too_many_edges_rows_and_columns_are_told_in_words(self):
+        graph = networkx.gnm_random_graph(100, 501, seed=1)
+        sentence = "the graph has 501 edges, and a description has from 0 to 500"
+        self.hold_to_sentence(sentence, 2, lambda: matbench.graph_description(graph))
+        self.hold_to_sentence(sentence, 2, lambda: matbench.forests_description(graph))
+        graph = networkx.empty_graph(502)
+        sentence = "the graph has 501 {}, and a description has from 0 to 500"
+        self.hold_to_sentence(sentence.format("rows"), 2,
+                              lambda: matbench.table_description(graph, range(501)))
+        self.hold_to_sentence(sentence.format("columns"), 2,
+                              lambda: matbench.table_description(graph, [0]))
+
+    def test_500_of_each_fit(self):
+        graph = networkx.gnm_random_graph(500, 500, seed=1)
+        self.assertIn("graph 500 500\n", matbench.show(matbench.graph_description(graph)))
+        self.assertIn("list 500 1\n", matbench.show(matbench.forests_description(graph)))
+
+    def test_an_attribute_that_no_edge_has_is_refused(self):
+        graph = networkx.Graph([("a", "b"), ("b", "c")])
+        for edge in graph.edges:
+            graph.edges[edge].update(weight=5, colour="red")
+        for run in (lambda: matbench.forests_description(graph, "wieght"),
+                    lambda: matbench.coloured_description(graph, weight="wieght"),
+                    lambda: matbench.table_description(graph, "b", "wieght"),
+                    lambda: matbench.rooted_description(graph.to_directed(), "a", "wieght")):
+            with self.assertRaisesRegex(ValueError, "no edge has the attribute 'wieght'"):
+                run()
+        graph.edges["a", "b"]["gain"] = 7
+        best = matbench.best(matbench.forests_description(graph, "gain")).best
+        self.assertEqual(best.weight, 8)
 
     def test_what_does_not_fit_is_refused(self):
         graph = networkx.Graph()
@@ -358,8 +557,9 @@ class Graphs(unittest.TestCase):
             matbench.forests_description(graph)
         for weight in ("5", None, float("inf"), float("nan")):
             graph.edges[1, 2]["weight"] = weight
-            with self.subTest(weight=weight), self.assertRaisesRegex(TypeError, "an int or a Weight"):
-                matbench.forests_description(graph)
+            with self.subTest(weight=weight):
+                with self.assertRaisesRegex(TypeError, "an int or a Weight"):
+                    matbench.forests_description(graph)
         with self.assertRaises(TypeError):
             matbench.rooted_description(graph, 1)
         with self.assertRaises(TypeError):

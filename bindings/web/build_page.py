@@ -1,7 +1,7 @@
 """build_page.py TOP OUT: makes the page from the files beside this one and from the documents and examples of the repository TOP.
 
-OUT/web/ is the page as files, for any static server, and OUT/matbench.html the same as one file, which works from a folder too. OUT/matbench.wasm
-has to be there.
+OUT/web/ is the page as files, for any static server, and OUT/matbench.html the same as one file, which works from a folder too: its module and its
+data are compressed. The same files give the same bytes. OUT/matbench.wasm has to be there.
 """
 import base64
 import hashlib
@@ -10,23 +10,34 @@ import os
 import re
 import shutil
 import sys
+import zlib
 
 HERE = os.path.dirname(os.path.abspath(__file__))
-PAGE = ("index.html", "style.css", "parts.mjs", "matbench.mjs", "worker.mjs", "run.mjs", "textbox.mjs", "link.mjs", "answer.mjs", "page.mjs")
+PAGE = ("index.html", "style.css", "parts.mjs", "matbench.mjs", "worker.mjs", "run.mjs", "textbox.mjs", "link.mjs", "kept.mjs",
+        "answer.mjs", "page.mjs")
 #: The parts of the one file's script, each before those that take from it.
-SCRIPT = ("matbench.mjs", "run.mjs", "textbox.mjs", "link.mjs", "answer.mjs", "data.mjs", "page.mjs")
-#: parts.mjs of the one file.
+SCRIPT = ("matbench.mjs", "run.mjs", "textbox.mjs", "link.mjs", "kept.mjs", "answer.mjs", "page.mjs")
+#: parts.mjs of the one file, and a function that takes what `packed` made.
 PARTS = """
-const dataOf = (id) => document.getElementById(id).textContent;
+const textOf = (id) => document.getElementById(id).textContent;
+function unpacked(id) {
+  const bytes = Uint8Array.from(atob(textOf(id)), (it) => it.charCodeAt(0));
+  return new Response(new Blob([bytes]).stream().pipeThrough(new DecompressionStream("deflate-raw")));
+}
 async function loadModule() {
-  return Uint8Array.from(atob(dataOf("module").trim()), (it) => it.charCodeAt(0)).buffer;
+  return unpacked("module").arrayBuffer();
 }
 let workerAddress;
 function startWorker() {
-  workerAddress ??= URL.createObjectURL(new Blob([dataOf("worker")], { type: "text/javascript" }));
+  workerAddress ??= URL.createObjectURL(new Blob([textOf("worker")], { type: "text/javascript" }));
   return new Worker(workerAddress);
 }
+if (!globalThis.DecompressionStream) {
+  document.getElementById("unable").textContent = "This browser is too old: the page needs DecompressionStream, and 64-bit WebAssembly memory.";
+}
 """
+#: data.mjs of the one file.
+DATA = "const {{ {names} }} = await unpacked(\"data\").json();\n"
 POLICY = ("default-src 'none'; script-src '{script}' 'wasm-unsafe-eval'; style-src '{style}'; connect-src 'none'; worker-src blob:; "
           "img-src data:; base-uri 'none'; form-action 'none'")
 
@@ -143,14 +154,23 @@ def examples(top, known):
     return sorted(made, key=lambda it: order.index(it["form"]))
 
 
+def version(help_source):
+    """What --version prints."""
+    return re.search(r'const VERSION: &str = "(matbench [\w.]+)\\n";', help_source)[1]
+
+
 def data(top):
+    """What data.mjs has, by its names there."""
+    formats, help_source = read(top, "docs", "FORMATS.md"), read(top, "crates", "mat_main", "src", "help.rt")
+    known = commands(help_source, formats)
+    return {"VERSION": version(help_source), "COMMANDS": known, "EXAMPLES": examples(top, known), "LIMITS": limits(formats),
+            "FAULTS": faults(formats), "REASONS": reasons(formats)}
+
+
+def data_module(parts):
     """The module data.mjs."""
-    formats = read(top, "docs", "FORMATS.md")
-    known = commands(read(top, "crates", "mat_main", "src", "help.rt"), formats)
-    parts = {"COMMANDS": known, "EXAMPLES": examples(top, known), "LIMITS": limits(formats), "FAULTS": faults(formats),
-             "REASONS": reasons(formats)}
-    lines = [f"export const {name} = {json.dumps(part, ensure_ascii=True, indent=1)};\n" for name, part in parts.items()]
-    return "// Made by build_page.py from docs/FORMATS.md, the text of --help and examples/.\n" + "".join(lines)
+    lines = [f"export const {name} = {json.dumps(part, indent=1)};\n" for name, part in parts.items()]
+    return "// Made by build_page.py from docs/FORMATS.md, the texts of --help and --version, and examples/.\n" + "".join(lines)
 
 
 def joined(texts):
@@ -165,21 +185,32 @@ def source_of(text):
     return "sha256-" + base64.b64encode(hashlib.sha256(text.encode()).digest()).decode()
 
 
-def one_file(out):
+def packed(content):
+    """Bytes as a word that `unpacked` takes: compressed by zlib, in Base64."""
+    squeeze = zlib.compressobj(9, zlib.DEFLATED, -zlib.MAX_WBITS, zlib.DEF_MEM_LEVEL)
+    return base64.b64encode(squeeze.compress(content) + squeeze.flush()).decode()
+
+
+def block(name, text):
+    """A text that the script of the one file takes by its name."""
+    return f'<script type="text/plain" id="{name}">{text}</script>\n'
+
+
+def one_file(out, parts):
     """The page as one file."""
     folder = os.path.join(out, "web")
-    script = "\n" + PARTS + joined(read(folder, name) for name in SCRIPT)
+    script = "\n" + PARTS + DATA.format(names=", ".join(parts)) + joined(read(folder, name) for name in SCRIPT)
     style = "\n" + read(folder, "style.css")
     worker = joined(read(folder, name) for name in ("matbench.mjs", "worker.mjs"))
     with open(os.path.join(out, "matbench.wasm"), "rb") as file:
-        module = base64.b64encode(file.read()).decode()
+        module = packed(file.read())
     assert "</script" not in script + worker, "a script would end early"
     page = read(folder, "index.html")
     policy = POLICY.format(script=source_of(script), style=source_of(style))
     page = re.sub(r'(http-equiv="Content-Security-Policy" content=)"[^"]*"', lambda hit: f'{hit[1]}"{policy}"', page)
     page = page.replace('<link rel="stylesheet" href="style.css">', f"<style>{style}</style>")
     page = page.replace('<script type="module" src="page.mjs"></script>\n', "")
-    blocks = f'<script type="text/plain" id="worker">{worker}</script>\n<script type="text/plain" id="module">{module}</script>\n'
+    blocks = block("worker", worker) + block("data", packed(json.dumps(parts).encode())) + block("module", module)
     return page.replace("</body>", f'{blocks}<script type="module">{script}</script>\n</body>')
 
 
@@ -191,8 +222,9 @@ def main():
     for name in PAGE:
         shutil.copyfile(os.path.join(HERE, name), os.path.join(folder, name))
     shutil.copyfile(os.path.join(out, "matbench.wasm"), os.path.join(folder, "matbench.wasm"))
-    write(data(top), folder, "data.mjs")
-    write(one_file(out), out, "matbench.html")
+    parts = data(top)
+    write(data_module(parts), folder, "data.mjs")
+    write(one_file(out, parts), out, "matbench.html")
 
 
 if __name__ == "__main__":

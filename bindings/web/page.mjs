@@ -1,6 +1,7 @@
 // The page: what its elements do.
 import { AnswerParts } from "./answer.mjs";
-import { COMMANDS, EXAMPLES, FAULTS, LIMITS, REASONS } from "./data.mjs";
+import { COMMANDS, EXAMPLES, FAULTS, LIMITS, REASONS, VERSION } from "./data.mjs";
+import { keep, kept } from "./kept.mjs";
 import { fragmentOf, MOST_DESCRIPTION, problemOf } from "./link.mjs";
 import { moduleOfProgram, Run } from "./run.mjs";
 import { TextBox } from "./textbox.mjs";
@@ -19,8 +20,9 @@ const STATUSES = {
 };
 
 const at = (id) => document.getElementById(id);
-const description = new TextBox(at("description"), at("description-fault"), MOST_DESCRIPTION);
-const answer = new TextBox(at("answer"), at("answer-fault"), MOST_CERTIFICATE);
+const partsOfBox = (id) => ({ area: at(id), fault: at(`${id}-fault`), part: at(`${id}-part`), back: at(`${id}-back`) });
+const description = new TextBox(partsOfBox("description"), MOST_DESCRIPTION);
+const answer = new TextBox(partsOfBox("answer"), MOST_CERTIFICATE);
 const parts = new AnswerParts({ nothing: at("nothing"), words: at("words"), picture: at("picture"), names: at("names") });
 /** The runs that show a right answer: the first word of each, what is said of it, and what is done with what it writes. */
 const SHOWN = [
@@ -28,6 +30,8 @@ const SHOWN = [
   ["--picture", "Drawing it", (svg) => parts.draw(svg)],
 ];
 let running = null;
+/** The button that began the last run. */
+let begunBy = at("solve");
 /** The command that answered what stands in the box, or null where it came from elsewhere. */
 let answered = null;
 
@@ -77,9 +81,12 @@ function showCommand() {
   at("count").disabled = !counted;
 }
 
-function setProblem({ command, count, text }) {
-  description.text = text;
-  fillCommands();
+function setProblem(problem) {
+  description.text = problem.text;
+  setCommand(problem);
+}
+
+function setCommand({ command, count }) {
   if ([...at("command").options].some((it) => it.value === command)) at("command").value = command;
   at("count").value = count || 2;
   showCommand();
@@ -139,11 +146,24 @@ function meaningOf(note) {
 
 // --- What can be done ---
 
-/** Another text is no example, unless it is that of the one that is chosen. */
-function onDescription() {
-  if (EXAMPLES[at("example").value]?.text !== description.text) at("example").value = "";
+/** Another text ends the run of the one before, and nothing that was said of that stays. */
+function forget() {
+  running?.stop();
   parts.clear();
+  say("");
+}
+
+/** The example that is chosen is the one that has the text of the description. */
+function onDescription() {
+  forget();
+  const place = EXAMPLES.findIndex((it) => it.text === description.text);
+  at("example").value = place < 0 ? "" : place;
   fillCommands();
+}
+
+/** An answer of the page does not stay beside another problem that was opened, chosen or followed by a link. */
+function dropAnswer() {
+  if (answered) answer.text = "";
 }
 
 /** Whether a text is no certificate but a description, as those are that show and convert write. */
@@ -152,14 +172,14 @@ function isDescription(text) {
 }
 
 function onAnswer() {
+  forget();
   answered = null;
   at("answer-label").textContent = isDescription(answer.text) ? "Text" : "Certificate";
-  parts.clear();
 }
 
 /**
- * Runs the program, and answers how it ended, or null where it was stopped or could not run. While it runs the page says what it does, behind
- * what was said of the run before.
+ * Runs the program over texts of the boxes, and answers how it ended, or null where it was stopped or could not run. While it runs the page says
+ * what it does, behind what was said of the run before.
  */
 async function run(words, files, doing = "Running", before = "") {
   [description, answer].forEach((it) => it.clearFault());
@@ -169,8 +189,9 @@ async function run(words, files, doing = "Running", before = "") {
   const clock = setInterval(() => (at("time").textContent = timeOf(mine.milliseconds)), 100);
   try {
     const ended = await mine.ended;
-    if (!ended) say(`${before}Stopped after ${timeOf(mine.milliseconds)}.`);
-    return ended;
+    if (ended && isInBoxes(files)) return ended;
+    say(isInBoxes(files) ? `${before}Stopped after ${timeOf(mine.milliseconds)}.` : "Stopped, since the text is another one now.");
+    return null;
   } catch (error) {
     say(before + (error.message === "memory" ? STATUSES[7] : error.message));
     return null;
@@ -181,11 +202,20 @@ async function run(words, files, doing = "Running", before = "") {
   }
 }
 
+/** While a program runs its buttons keep the focus, and do nothing. That of Stop, which is hidden then, goes back to the one that began the run. */
 function setRunning(isRunning) {
-  for (const id of ["solve", "check", "example"]) at(id).disabled = isRunning;
-  for (const id of ["description", "answer"]) at(id).readOnly = isRunning;
+  for (const id of ["solve", "check"]) at(id).setAttribute("aria-disabled", isRunning);
+  for (const box of [description, answer]) box.lock(isRunning);
+  if (!isRunning && document.activeElement === at("stop")) begunBy.focus();
   at("stop").disabled = !isRunning;
   if (!isRunning) running = null;
+}
+
+/** Does what a button is for, unless something runs. */
+function begin(button, action) {
+  if (running) return;
+  begunBy = at(button);
+  action();
 }
 
 async function solve() {
@@ -204,8 +234,8 @@ async function solve() {
   const said = `Done in ${timeOf(ended.milliseconds)}.`;
   say(said);
   const files = { description: text, answer: ended.output };
-  if (command === "cuts" && isInBoxes(files)) parts.name(text, ended.output);
-  else if (command !== "cuts" && !isDescription(ended.output)) await showAnswer(said, files);
+  if (command === "cuts") parts.name(text, ended.output);
+  else if (!isDescription(ended.output)) await showAnswer(said, files);
 }
 
 async function check() {
@@ -225,14 +255,15 @@ async function showAnswer(said, files) {
       say(`${said} ${STATUSES[ended.status] ?? ended.note}`);
       return;
     }
-    if (isInBoxes(files)) show(ended.output);
+    show(ended.output);
   }
   say(said);
 }
 
-/** Whether these texts stand in the boxes: others may have been dropped there meanwhile. */
+/** Whether these texts stand in the boxes: others may have been put there meanwhile. */
 function isInBoxes(files) {
-  return description.text === files.description && answer.text === files.answer;
+  const inBoxes = { description: description.text, answer: answer.text };
+  return Object.keys(files).every((name) => files[name] === inBoxes[name]);
 }
 
 function save(text, name, type = "text/plain") {
@@ -254,7 +285,8 @@ async function copyLink() {
     say("The description is too long for a link.");
     return;
   }
-  location.hash = fragment;
+  // Not by `location.hash`: the page would follow its own link, and put this text in the place of what is typed meanwhile.
+  history.replaceState(null, "", fragment);
   const isCopied = await navigator.clipboard?.writeText(location.href).then(() => true, () => false);
   say(isCopied ? "The link is copied. It holds the description." : "The address of this page now holds the description.");
 }
@@ -264,6 +296,23 @@ async function followLink() {
   const shown = problemOfPage();
   if (problem && Object.keys(shown).some((it) => shown[it] !== problem[it])) setProblem(problem);
   return problem;
+}
+
+/** Keeps what stands in the page, or at least the problem, with the fragment under which it stands there. */
+function keepTexts() {
+  const problem = { ...problemOfPage(), fragment: location.hash };
+  keep({ ...problem, answer: answer.text, answered }, problem);
+}
+
+/** Puts back what was kept under this fragment, and answers whether there was anything: it is later than the problem that the fragment holds. */
+function takeKept() {
+  const found = kept();
+  if (found?.fragment !== location.hash || !found.text) return false;
+  description.restore(found.text);
+  setCommand(found);
+  if (found.answer) answer.restore(found.answer);
+  answered = found.answered ?? null;
+  return true;
 }
 
 function takeFile(event, box) {
@@ -283,9 +332,9 @@ function onKey(event) {
 function listen() {
   at("problem").addEventListener("submit", (event) => {
     event.preventDefault();
-    solve();
+    begin("solve", solve);
   });
-  at("check").addEventListener("click", check);
+  at("check").addEventListener("click", () => begin("check", check));
   at("stop").addEventListener("click", () => running?.stop());
   at("link").addEventListener("click", copyLink);
   at("save-description").addEventListener("click", () => save(description.text, "description.txt"));
@@ -294,6 +343,7 @@ function listen() {
   at("open-description").addEventListener("change", (event) => takeFile(event, description));
   at("open-answer").addEventListener("change", (event) => takeFile(event, answer));
   at("description").addEventListener("input", onDescription);
+  at("description").addEventListener("replace", dropAnswer);
   at("answer").addEventListener("input", onAnswer);
   at("command").addEventListener("change", showCommand);
   at("example").addEventListener("change", () => EXAMPLES[at("example").value] && setProblem(EXAMPLES[at("example").value]));
@@ -303,17 +353,18 @@ function listen() {
     document.addEventListener(kind, (event) => event.dataTransfer.types.includes("Files") && event.preventDefault());
   }
   addEventListener("hashchange", followLink);
+  addEventListener("pagehide", keepTexts);
 }
 
-async function begin() {
+async function start() {
+  at("version").textContent = VERSION;
   fillExamples();
   fillLimits();
   listen();
   // Firefox enables at first what was enabled when the page was loaded again.
   setRunning(false);
-  if (!(await followLink())) {
-    at("example").value = EXAMPLES.findIndex((it) => it.file === "people.txt");
-    setProblem(EXAMPLES[at("example").value]);
+  if (!takeKept() && !(await followLink())) {
+    setProblem(EXAMPLES.find((it) => it.file === "people.txt"));
   }
   moduleOfProgram().catch((error) => {
     at("unable").textContent = error.message;
@@ -321,4 +372,4 @@ async function begin() {
   });
 }
 
-begin();
+start();

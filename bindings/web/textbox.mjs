@@ -1,4 +1,26 @@
-// A text box that can mark a line, and takes files that are dropped on it.
+// A text box that can mark a line, takes files that are dropped on it, and brings back what was written where another text came in its place.
+
+/** A longer text would hold up the browser, so the box shows as many of its lines as have so many characters, and keeps the rest. */
+const MOST_LINES = 10_000;
+const MOST_CHARACTERS = 1_000_000;
+
+/** How many characters of a text are shown: all, or those of the lines that have room, or a part of the first line. */
+function lengthShown(text) {
+  let end = 0;
+  for (let lines = 0; lines < MOST_LINES && end < text.length; lines++) {
+    const next = text.indexOf("\n", end) + 1 || text.length;
+    if (next > MOST_CHARACTERS) return end || MOST_CHARACTERS;
+    end = next;
+  }
+  return end;
+}
+
+/** How many line ends a text has. */
+function countLines(text) {
+  let count = 0;
+  for (let at = text.indexOf("\n"); at >= 0; at = text.indexOf("\n", at + 1)) count++;
+  return count;
+}
 
 /** The place of the first character of a line, from 1, and that behind its last one. */
 function rangeOf(text, line) {
@@ -12,28 +34,60 @@ function rangeOf(text, line) {
   return [from, end < 0 ? text.length : end];
 }
 
+function buttonFor(text, action) {
+  const button = Object.assign(document.createElement("button"), { type: "button", textContent: text });
+  button.addEventListener("click", action);
+  return button;
+}
+
 export class TextBox {
-  /** `area` is a textarea within a box that has an element of the class `mark`; `fault` is where the fault is told. */
-  constructor(area, fault, mostBytes) {
-    this.area = area;
-    this.fault = fault;
-    this.mostBytes = mostBytes;
+  /** The whole text where the area shows its front alone, and else null. */
+  #whole = null;
+  /** The text that was last put here and not written here. */
+  #given = "";
+  /** What was written here before another text came in its place, or null. */
+  #replaced = null;
+  #isLocked = false;
+
+  /**
+   * `area` is a textarea within a box that has an element of the class `mark`; `fault` is where a fault is told, `part` where it is told how much
+   * is shown, and `back` is the button that brings back what was written.
+   */
+  constructor({ area, fault, part, back }, mostBytes) {
+    Object.assign(this, { area, fault, part, back, mostBytes });
     this.mark = area.parentElement.querySelector(".mark");
     this.line = null;
     area.addEventListener("scroll", () => this.#placeMark());
     area.addEventListener("input", () => this.clearFault());
+    area.addEventListener("paste", (event) => this.#paste(event));
     area.parentElement.addEventListener("drop", (event) => this.#take(event));
+    back.addEventListener("click", () => this.#bringBack());
   }
 
   get text() {
-    return this.area.value;
+    return this.#whole ?? this.area.value;
   }
 
-  /** Puts another text into the box, as if it were typed. */
+  /** Puts another text into the box. The area has the event `input` then, as if it were typed, and `replace`. */
   set text(text) {
-    this.area.value = text;
-    this.area.scrollTop = 0;
-    this.area.dispatchEvent(new Event("input", { bubbles: true }));
+    const before = this.text;
+    if (before.trim() && before !== this.#given) this.#replaced = before;
+    this.back.hidden = this.#replaced === null;
+    this.#show(text.replace(/\r\n?/g, "\n"));
+    this.#given = this.text;
+    for (const kind of ["input", "replace"]) this.area.dispatchEvent(new Event(kind, { bubbles: true }));
+  }
+
+  /** Puts a text into the box that was written there before. */
+  restore(text) {
+    this.text = text;
+    this.#given = "";
+  }
+
+  /** Has the text stay as it is, or lets it be changed again. A text whose rest is not shown cannot be changed. */
+  lock(isLocked) {
+    this.#isLocked = isLocked;
+    this.area.readOnly = isLocked || this.#whole !== null;
   }
 
   /** Puts what a file holds into the box. */
@@ -49,6 +103,52 @@ export class TextBox {
     }
   }
 
+  /** The area is out of the page while its text is changed: a browser forgets then what it could undo there, which was of another text. */
+  #show(text) {
+    const hasFocus = document.activeElement === this.area;
+    const length = lengthShown(text);
+    this.#whole = length < text.length ? text : null;
+    this.area.remove();
+    this.area.value = text.slice(0, length);
+    this.mark.after(this.area);
+    if (hasFocus) this.area.focus({ preventScroll: true });
+    this.area.scrollTop = 0;
+    this.#tellPart();
+    this.lock(this.#isLocked);
+  }
+
+  /** Tells how much of a text is shown where that is not all. */
+  #tellPart() {
+    this.part.replaceChildren();
+    if (this.#whole === null) return;
+    const inAll = (count) => count.toLocaleString("en");
+    const [shown, whole] = [countLines(this.area.value), countLines(this.#whole)];
+    const told = shown > 0 ? `${inAll(shown)} of ${inAll(whole)} lines` : `${inAll(MOST_CHARACTERS)} of ${inAll(this.#whole.length)} characters`;
+    this.part.append(`The first ${told} are shown, and cannot be changed here. The whole text is what is solved, checked and saved. `);
+    this.part.append(buttonFor("Empty the box", () => this.#empty()));
+  }
+
+  #empty() {
+    this.text = "";
+    this.area.focus();
+  }
+
+  #bringBack() {
+    const text = this.#replaced;
+    this.#replaced = null;
+    this.restore(text);
+    this.area.focus();
+  }
+
+  /** A text that becomes too long to be shown is not left to the browser. */
+  #paste(event) {
+    const { value, selectionStart, selectionEnd, readOnly } = this.area;
+    const text = value.slice(0, selectionStart) + event.clipboardData.getData("text/plain") + value.slice(selectionEnd);
+    if (readOnly || lengthShown(text) === text.length) return;
+    event.preventDefault();
+    this.text = text;
+  }
+
   #take(event) {
     const [file] = event.dataTransfer.files;
     if (!file) return;
@@ -56,17 +156,14 @@ export class TextBox {
     this.open(file);
   }
 
-  /** Tells a fault, and marks its line where it has one. `parts` are texts and elements. */
+  /** Tells a fault, and marks its line where it has one that is shown. `parts` are texts and elements. */
   showFault(line, ...parts) {
-    this.line = line;
+    const isShown = line !== null && (this.#whole === null || line <= countLines(this.area.value));
+    this.line = isShown ? line : null;
     this.area.setAttribute("aria-invalid", "true");
     this.fault.replaceChildren(...parts);
-    if (line === null) return;
-    const button = document.createElement("button");
-    button.type = "button";
-    button.textContent = `Go to line ${line}`;
-    button.addEventListener("click", () => this.#goTo(line));
-    this.fault.append(" ", button);
+    if (!isShown) return;
+    this.fault.append(" ", buttonFor(`Go to line ${line}`, () => this.#goTo(line)));
     this.area.scrollTop = Math.max(0, (line - 4) * this.#lineHeight());
     this.#placeMark();
   }
@@ -80,7 +177,7 @@ export class TextBox {
 
   #goTo(line) {
     this.area.focus();
-    this.area.setSelectionRange(...rangeOf(this.text, line));
+    this.area.setSelectionRange(...rangeOf(this.area.value, line));
   }
 
   #lineHeight() {

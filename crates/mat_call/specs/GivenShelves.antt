@@ -1,10 +1,12 @@
 -- Files in memory as a call sees them: each name is told.
-use Rattle.std.specs.Prelude.{ℕ, List, [], ◌∷◌, if◌then◌else◌, Option, Some, is_some, unwrap_or}
+use Rattle.std.specs.Prelude.{ℕ, suc, List, replicate, if◌then◌else◌, Option, Some, is_some, unwrap_or}
 use Rattle.mat_shelf.specs.Files.{FileState, held_in}
+use Rattle.mat_cert.specs.Limits.{certificate_limit}
 
--- what stands for the text of a name that no file has: 256 is no byte, so no file holds it, and it is neither a description nor a certificate
-abbrev pub no_text : List ℕ
-no_text = 256 ∷ []
+-- What stands for the text of a name that no file has: it is longer than any file may be, so it is never read whole, and is neither a
+-- description nor a certificate, a witness or a list. 256 is no byte, so no file holds it.
+pub no_text : List ℕ
+no_text = replicate (suc certificate_limit) 256
 
 -- what is told of a name: what the file of this name holds, and that there is no text where no file has it
 abbrev pub told_in : List FileState → List ℕ → Option (List ℕ)

@@ -51,6 +51,9 @@ fn call_into<R: TopWorkers>(
 /// The words are those after the program's name. Usage comes exactly where they are no command, ReadFault only where the call reaches a name
 /// that none of the files has, and WriteFault only where the output has no room for the whole answer. Each other status but Memory is that of the
 /// words and of what the files hold, and so are the output and the note, each cut off where it has no room left.
+///
+/// Of a name that none of the files has the contract says what it says of a file with more bytes than any may have. So where the call reaches
+/// such a name it leaves open whether the call ends with ReadFault, as it does, or with TooLong.
 pub fn call<R: TopWorkers>(
     rt: &R,
     alloc: Global,

@@ -5,7 +5,7 @@ use Rattle.std.specs.Prelude.{ℕ, ◌+◌, ◌*◌, List, [], ◌∷◌}
 abbrev pub rgb : ℕ → ℕ → ℕ → ℕ
 rgb red green blue = (red * 256 + green) * 256 + blue
 
--- colours that readers with any colour vision tell apart (Okabe and Ito 2008)
+-- colours that most readers tell apart, those with the common kinds of colour blindness too (Okabe and Ito 2008)
 abbrev pub numbered_colours : List ℕ
 numbered_colours = rgb 0 114 178 ∷ rgb 213 94 0 ∷ rgb 0 158 115 ∷ rgb 204 121 167 ∷ rgb 230 159 0 ∷ rgb 86 180 233 ∷ rgb 0 0 0 ∷ []
 

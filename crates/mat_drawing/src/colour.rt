@@ -1,4 +1,4 @@
-//! Colours that readers with any colour vision tell apart, after Okabe and Ito.
+//! Colours that most readers tell apart, those with the common kinds of colour blindness too, after Okabe and Ito.
 
 ghost use Rattle.std.specs.Prelude.{◌≡◌, ◌%◌, slice_index_or};
 ghost use Rattle.mat_drawing.specs.Colours.{numbered_colours, pale_colours};

@@ -22,7 +22,8 @@ use std::fmt::Display;
 use std::marker::Model;
 
 /// Lines of well-formed markup. Words become texts or titles of shapes, in which they are escaped, and a question mark stands for each of
-/// their bytes that may not be printed.
+/// their bytes that may not be printed. The clauses of the calls that add something say only that well-formed markup is added: what it shows
+/// is tested.
 #[derive(Drop)]
 pub struct Drawing {
     alloc: Global,

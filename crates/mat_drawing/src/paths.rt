@@ -6,7 +6,7 @@ use crate::point::Point;
 use crate::units::Units;
 use std::alloc::{AllocError, Global};
 
-/// The data of a path from point to point. The only error is want of memory.
+/// The data of a path from point to point. The clause says only that no points have no data. The only error is want of memory.
 pub fn polyline(alloc: Global, points: &[Point]) -> Result<String, AllocError>
     ensures { IfOk result (λ path. length points.now ≡ 0 → string_len path ≡ 0) }
 {
@@ -18,8 +18,8 @@ pub fn polyline(alloc: Global, points: &[Point]) -> Result<String, AllocError>
     Ok(path)
 }
 
-/// The data of a path of so many strokes down to the same height, the first from this point, each so far from the one before it. The only
-/// error is want of memory.
+/// The data of a path of so many strokes down to the same height, the first from this point, each so far from the one before it. The clause
+/// says only that no strokes have no data. The only error is want of memory.
 pub fn strokes(
     alloc: Global,
     from: Point,

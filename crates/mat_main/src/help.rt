@@ -1,7 +1,15 @@
 //! What `--help` and `--version` print.
 
+use mat_program::Texts;
+
+/// The two texts.
+pub(crate) const TEXTS: Texts<'static> = Texts {
+    help: HELP,
+    version: VERSION,
+};
+
 /// The line of `--version`.
-pub(crate) const VERSION: &str = "matbench 0.1.0\n";
+pub(crate) const VERSION: &str = "matbench 1.0.0\n";
 
 /// The text of `--help`, of lines of at most 100 columns. The script `matbench` prints the lines between the two quotation marks where the
 /// program is not built, so none of them has such a mark or a backslash.

@@ -1,12 +1,12 @@
-//! The program `matbench`: the top call, and reports, over the real files and streams.
+//! The program `matbench`: what its words ask for, over the real files and streams.
 #![tactic(auto)]
 
 mod help;
 
-use crate::help::{HELP, VERSION};
-use mat_report::{AsPicture, InWords, report};
+use crate::help::TEXTS;
+use mat_program::perform;
 use mat_shelf::{FileShelf, StreamSink};
-use mat_top::{Status, run};
+use mat_top::{Status, TopWorkers};
 use std::alloc::AllocError;
 use std::io::Write;
 use std::process::ExitCode;
@@ -27,105 +27,50 @@ fn words_of(rt: &HostRuntime) -> Result<Vec<String>, AllocError> {
     Ok(words)
 }
 
-// Prints a text to standard output.
-fn print_text(rt: &HostRuntime, text: &str) -> ExitCode {
-    match rt.stdout().write_all(text.as_bytes()) {
-        Ok(()) => ExitCode::from(Status::Done.number()),
-        Err(_) => ExitCode::from(Status::WriteFault.number()),
-    }
-}
-
-// The text that the words ask for, where they are `--help` or `--version` alone.
-fn text_of(words: &[String]) -> Option<&'static str> {
-    let [word] = words else {
-        return None;
+// Does what the words after the program's name ask for, over the real files and streams of the host.
+fn program<R: TopWorkers>(rt: &R, host: &HostRuntime) -> ExitCode
+    requires shared { R.shared rt.now }
+{
+    let Ok(words) = words_of(host) else {
+        let _ = host.stderr().write_all(b"refused: memory\n");
+        return ExitCode::from(Status::Memory.number());
     };
-    match word.as_str() {
-        "--help" => Some(HELP),
-        "--version" => Some(VERSION),
-        _ => None,
-    }
-}
-
-// The names of a description and of a certificate, where they stand behind this word and there are no other words.
-fn names_behind<'a>(word: &str, words: &'a [String]) -> Option<(&'a str, &'a str)> {
-    let [first, description, certificate] = words else {
-        return None;
-    };
-    if first.as_str() != word {
-        return None;
-    }
-    Some((description.as_str(), certificate.as_str()))
+    let mut files = FileShelf::new(host);
+    let mut out = StreamSink::new(host.stdout());
+    let mut notes = StreamSink::new(host.stderr());
+    let status = perform(
+        rt,
+        host.alloc(),
+        &TEXTS,
+        &words,
+        &mut files,
+        &mut out,
+        &mut notes,
+    );
+    ExitCode::from(status.number())
 }
 
 fn main(rt: HostRuntime) -> ExitCode {
-    let Ok(words) = words_of(&rt) else {
-        let _ = rt.stderr().write_all(b"refused: memory\n");
-        return ExitCode::from(Status::Memory.number());
-    };
-    if let Some(text) = text_of(&words) {
-        return print_text(&rt, text);
-    }
-    let alloc = rt.alloc();
-    let mut files = FileShelf::new(&rt);
-    let mut out = StreamSink::new(rt.stdout());
-    let mut notes = StreamSink::new(rt.stderr());
-    let status = if let Some((description, certificate)) = names_behind("--tell", &words) {
-        report(
-            &InWords,
-            &rt,
-            alloc,
-            description,
-            certificate,
-            &mut files,
-            &mut out,
-            &mut notes,
-        )
-    } else if let Some((description, certificate)) = names_behind("--picture", &words) {
-        report(
-            &AsPicture,
-            &rt,
-            alloc,
-            description,
-            certificate,
-            &mut files,
-            &mut out,
-            &mut notes,
-        )
-    } else {
-        run(&rt, alloc, &words, &mut files, &mut out, &mut notes)
-    };
-    ExitCode::from(status.number())
+    program(&rt, &rt)
 }
 
 #[cfg(test)]
 mod tests {
     use super::*;
-    use std::alloc::Global;
-    use std::test::Fail;
+    use mat_top::OneWorker;
 
-    fn words_in(alloc: Global, words: &[&str]) -> Result<Vec<String>, AllocError> {
-        let mut all = Vec::new(alloc);
-        for word in words {
-            all.push(String::from_str(alloc, word)?)?;
-        }
-        Ok(all)
-    }
-
-    fn text_for(alloc: Global, words: &[&str]) -> Result<Option<&'static str>, AllocError> {
-        Ok(text_of(&words_in(alloc, words)?))
+    #[test]
+    fn the_word_of_a_test_is_no_command(rt: HostRuntime) {
+        assert_eq!(rt; program(&OneWorker, &rt), ExitCode::from(2));
     }
 
     #[test]
-    fn version_alone_is_answered_by_name_and_number(rt: HostRuntime) -> Result<(), Fail> {
-        let text = text_for(rt.alloc(), &["--version"])?;
-        assert_eq!(rt; text, Some("matbench 0.1.0\n"));
-        Ok(())
+    fn version_is_a_name_and_a_number(rt: HostRuntime) {
+        assert_eq!(rt; TEXTS.version, "matbench 1.0.0\n");
     }
 
     #[test]
-    fn help_alone_names_each_command_line_and_status(rt: HostRuntime) -> Result<(), Fail> {
-        let help = text_for(rt.alloc(), &["--help"])?.unwrap_or("");
+    fn help_names_each_command_line_and_status(rt: HostRuntime) {
         let parts = [
             "matbench show FILE",
             "matbench convert FILE",
@@ -157,47 +102,8 @@ mod tests {
             "\n   14  bad list: ",
         ];
         for part in parts {
-            assert!(rt; help.contains(part));
+            assert!(rt; TEXTS.help.contains(part));
         }
-        assert!(rt; help.ends_with("\n"));
-        Ok(())
-    }
-
-    #[test]
-    fn other_words_have_no_text(rt: HostRuntime) -> Result<(), Fail> {
-        let lines: [&[&str]; 5] = [
-            &[],
-            &["--help", "--version"],
-            &["show", "--help"],
-            &["help"],
-            &["--HELP"],
-        ];
-        for words in lines {
-            assert!(rt; text_for(rt.alloc(), words)?.is_none());
-        }
-        Ok(())
-    }
-
-    #[test]
-    fn three_words_name_what_is_told(rt: HostRuntime) -> Result<(), Fail> {
-        let words = words_in(rt.alloc(), &["--tell", "plan.txt", "-"])?;
-        assert_eq!(rt; names_behind("--tell", &words), Some(("plan.txt", "-")));
-        assert_eq!(rt; names_behind("--picture", &words), None);
-        Ok(())
-    }
-
-    #[test]
-    fn other_words_name_nothing(rt: HostRuntime) -> Result<(), Fail> {
-        let lines: [&[&str]; 5] = [
-            &["--tell"],
-            &["--tell", "plan.txt"],
-            &["--tell", "plan.txt", "plan.cert", "-"],
-            &["tell", "plan.txt", "plan.cert"],
-            &["check", "--tell", "plan.cert"],
-        ];
-        for words in lines {
-            assert!(rt; names_behind("--tell", &words_in(rt.alloc(), words)?).is_none());
-        }
-        Ok(())
+        assert!(rt; TEXTS.help.ends_with("\n"));
     }
 }

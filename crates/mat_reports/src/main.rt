@@ -1,6 +1,7 @@
 //! The program `mat_reports`, a test: it tells the answers of the file `told.txt`, reports over objects that fail and over files that are too
-//! long, solves a pair and judges its answer by calls whose words stand in one line, and draws the answers of the file `drawn.txt`. It prints
-//! what came of each behind its name, with the status and the note where it was refused. What it has to print was worked out without it.
+//! long, solves a pair, judges its answer and answers a list of jobs by calls whose words stand in one line, does what the program does with some
+//! command lines, and draws the answers of the file `drawn.txt`. It prints what came of each behind its name, with the status and the note where it
+//! was refused. What it has to print was worked out without it.
 //!
 //! A line of the files that begins with `> ` begins a case, and names it. The lines below it are the text of the description, and those below a
 //! line that is `--` alone the text of the certificate; where there is no such line, there is no file of the certificate. A last line of a text
@@ -10,10 +11,13 @@
 mod calls;
 mod faults;
 mod lines;
+mod program;
 
 use crate::calls::{Ended, ended_of};
 use crate::faults::all_ended;
-use crate::lines::judged_answer;
+use crate::lines::{judged_answer, listed_answers, missed_file};
+use crate::program::print_all_performed;
+use mat_call::Called;
 use mat_judge::Status;
 use mat_report::{AnswerText, AsPicture, InWords};
 use std::alloc::{AllocError, Global};
@@ -78,16 +82,19 @@ fn print_ended(rt: &HostRuntime, name: &str, ended: &Ended) -> io::Result<()> {
     )
 }
 
-// Prints what a line says of an answer that a line gave.
-fn print_judged(rt: &HostRuntime) -> io::Result<()> {
-    let called = judged_answer(rt.alloc())?;
-    print_case(
-        rt,
-        "an answer by a line is judged by a line",
-        called.status,
-        &called.output,
-        &called.note,
-    )
+// Prints what came of a call over a line.
+fn print_called(rt: &HostRuntime, name: &str, called: &Called) -> io::Result<()> {
+    print_case(rt, name, called.status, &called.output, &called.note)
+}
+
+// Prints what came of calls over a line.
+fn print_lines(rt: &HostRuntime) -> io::Result<()> {
+    let judged = judged_answer(rt.alloc())?;
+    print_called(rt, "an answer by a line is judged by a line", &judged)?;
+    let missed = missed_file(rt.alloc())?;
+    print_called(rt, "a line names a file that is not there", &missed)?;
+    let listed = listed_answers(rt.alloc())?;
+    print_called(rt, "the jobs of a list by a line", &listed)
 }
 
 // Prints what is written of the cases of a file.
@@ -113,6 +120,7 @@ fn main(rt: HostRuntime) -> io::Result<()> {
     for (name, ended) in &all_ended(&rt, rt.alloc())? {
         print_ended(&rt, name, ended)?;
     }
-    print_judged(&rt)?;
+    print_lines(&rt)?;
+    print_all_performed(&rt, &rt)?;
     print_cases(&rt, &rt, &AsPicture, "drawn.txt")
 }

@@ -108,7 +108,8 @@ fn worthwhile_workers(first: &AnyMatroid, second: &AnyMatroid, workers: u32) -> 
     }
 }
 
-/// A heaviest common independent set of two matroids for each size, found by at most so many workers. The only error is want of memory.
+/// A heaviest common independent set of two matroids for each size. The work is for up to so many workers; no clause speaks of how many share it.
+/// The only error is want of memory.
 pub(crate) fn intersect<R: SolveWorkers>(
     rt: &R,
     alloc: Global,

@@ -15,7 +15,8 @@ use mat_cert::Answer;
 use mat_problem::Problem;
 use std::alloc::{AllocError, Global};
 
-/// A right answer to the query about a problem of its form, found by at most `workers` workers, from 1 to 16. The only error is want of memory.
+/// A right answer to the query about a problem of its form. The work is for up to `workers` workers, from 1 to 16; no clause speaks of how many
+/// share it. The only error is want of memory.
 pub fn solve<R: SolveWorkers>(
     rt: &R,
     alloc: Global,

@@ -18,7 +18,7 @@ use mat_problem::{Named, Problem};
 use mat_text::{Called, Ends, Text};
 use std::alloc::{AllocError, Global};
 
-// The most bytes of a line, except where its first word and the spaces in front of it have more.
+// The most bytes of a line, except where its first word and the spaces in front of it have more. No clause says so.
 const LINE: usize = 96;
 
 // Tells a right answer to a problem whose edges or cells have weights: a graph with colours, or a table.
@@ -166,8 +166,9 @@ pub fn told_text(alloc: Global, named: &Named, answer: &Answer) -> Result<Text, 
     Ok(text)
 }
 
-/// A right answer to a problem in words, paragraph by paragraph as [`told_text`] has them. A line has at most 96 bytes, except where its first
-/// word and the spaces in front of it have more. The only error is want of memory.
+/// A right answer to a problem in words, paragraph by paragraph as [`told_text`] has them, in lines of at most 96 bytes, except where the first
+/// word of a line and the spaces in front of it have more. The clause speaks of the bytes alone: what the words say, and how long the lines
+/// are, is tested. The only error is want of memory.
 pub fn told(alloc: Global, named: &Named, answer: &Answer) -> Result<Vec<u8>, AllocError>
     requires valid { IsValid (instance_of named.now.problem) }
     requires sound { IsSoundInstance (instance_of named.now.problem) }

@@ -43,7 +43,7 @@ fn name_in<'a>(names: &'a Names, x: usize) -> Name<'a>
     }
 }
 
-// The names of the members of a set, each behind a space.
+// The names of the members of a set, each behind a space. The clause says only that no members have no words.
 fn words_in(alloc: Global, names: &Names, set: &[u32]) -> Result<String, AllocError>
     ensures { IfOk result (λ words. length set.now ≡ 0 → string_len words ≡ 0) }
 {
@@ -78,14 +78,16 @@ impl<'a> Called<'a> {
         name_in(self.vertices, v)
     }
 
-    /// The names of the elements of a set, each behind a space. The only error is want of memory.
+    /// The names of the elements of a set, each behind a space. The clause says only that no elements have no words. The only error is want of
+    /// memory.
     pub fn elements_of(&self, alloc: Global, set: &ElemSet) -> Result<String, AllocError>
         ensures { IfOk result (λ words. length set.now ≡ 0 → string_len words ≡ 0) }
     {
         words_in(alloc, self.elements, set.as_slice())
     }
 
-    /// The names of the vertices of a set, each behind a space. The only error is want of memory.
+    /// The names of the vertices of a set, each behind a space. The clause says only that no vertices have no words. The only error is want of
+    /// memory.
     pub fn vertices_of(&self, alloc: Global, set: &ElemSet) -> Result<String, AllocError>
         ensures { IfOk result (λ words. length set.now ≡ 0 → string_len words ≡ 0) }
     {
@@ -93,7 +95,7 @@ impl<'a> Called<'a> {
     }
 }
 
-/// The numbers of a set, each behind a space. The only error is want of memory.
+/// The numbers of a set, each behind a space. The clause says only that no numbers have no words. The only error is want of memory.
 pub fn numbers_of(alloc: Global, set: &ElemSet) -> Result<String, AllocError>
     ensures { IfOk result (λ words. length set.now ≡ 0 → string_len words ≡ 0) }
 {

@@ -80,9 +80,9 @@ fn perform<R: TopWorkers, F: Shelf, O: Sink>(
 }
 
 /// Does what the words ask for: reads its files from the shelf, writes the answer to `out` and, where it is refused, a note to
-/// `notes`, and returns how it ended. The words are those after the program's name. At most as many workers as they name, from 1 to 16 and
-/// 1 where they name none, share the work on an answer or the jobs of a list; what is right doesn't depend on how many.
-/// Threads are started by `rt` where it is a runtime, and each has ended when the call returns; [`OneWorker`](crate::OneWorker) starts none.
+/// `notes`, and returns how it ended. The words are those after the program's name. They may name a number of workers, from 1 to 16, which
+/// `rt` starts to share the work on an answer or the jobs of a list; [`OneWorker`](crate::OneWorker) starts none. No clause speaks of threads
+/// or of that number: what is promised holds for each.
 ///
 /// Usage comes exactly where the words are no command, ReadFault only where the shelf's count of faults rose for a file of the call, and
 /// WriteFault only where the count of `out` rose. Where the shelf tells the files, each other status but Memory is the one of the

@@ -1,6 +1,6 @@
 //! Calls of the top call over objects that fail at known calls, over objects that never do, and over files that are too long.
 
-use crate::calls::{DESCRIPTION_LIMIT, Ended, ended_over, one_file, words_of};
+use crate::calls::{DESCRIPTION_LIMIT, Ended, ended_over, one_file, two_files, words_of};
 use mat_shelf::{MemShelf, MemSink, SureShelf, SureSink};
 use mat_top::{Status, run};
 use std::alloc::{AllocError, Global};
@@ -9,7 +9,11 @@ use std::thread::Threads;
 // Two matroids on no elements.
 const EMPTY_PAIR: &str = "matroids 1\npair 0\nweights\nuniform 0\nuniform 0\nend\n";
 
-// The most bytes that a certificate may have.
+// The answer to that.
+const EMPTY_ANSWER: &str =
+    "certificate 1\nanswer intersect 0 0\nrung 0 0\nset\nfirst\nsecond\ncut\nend\n";
+
+// The most bytes that a certificate or a witness may have.
 const CERTIFICATE_LIMIT: usize = 67_108_864;
 
 // The numbers of the calls that fail: of the shelf, of the output and of the notes.
@@ -147,14 +151,15 @@ fn told_sure<R: Threads + Sync>(rt: &R, alloc: Global) -> Result<Vec<u8>, AllocE
     )
 }
 
-// A description of so many bytes is shown.
+// A command reads a description or a list of so many bytes.
 fn told_long<R: Threads + Sync>(
     rt: &R,
     alloc: Global,
     name: &str,
+    command: &str,
     count: usize,
 ) -> Result<Vec<u8>, AllocError> {
-    let words = words_of(alloc, &["show", "f"])?;
+    let words = words_of(alloc, &[command, "f"])?;
     let files = one_file(alloc, vec![in alloc; b'x'; count]?)?;
     let mut shelf = MemShelf::new(files, 1_000_000, Vec::new(alloc));
     let ended = ended_over(rt, alloc, &words, &mut shelf)?;
@@ -169,6 +174,31 @@ fn told_long_certificate<R: Threads + Sync>(rt: &R, alloc: Global) -> Result<Vec
     let mut shelf = SureShelf::new(files, bytes);
     let ended = ended_over(rt, alloc, &words, &mut shelf)?;
     told_end(alloc, "a certificate is too long", &ended)
+}
+
+// A witness of one byte more than the limit is verified.
+fn told_long_witness<R: Threads + Sync>(rt: &R, alloc: Global) -> Result<Vec<u8>, AllocError> {
+    let words = words_of(alloc, &["verify", "0", "f", "c", "w"])?;
+    let description = EMPTY_PAIR.as_bytes().to_vec(alloc)?;
+    let files = two_files(alloc, description, EMPTY_ANSWER.as_bytes().to_vec(alloc)?)?;
+    let bytes = vec![in alloc; b'x'; CERTIFICATE_LIMIT + 1]?;
+    let mut shelf = SureShelf::new(files, bytes);
+    let ended = ended_over(rt, alloc, &words, &mut shelf)?;
+    told_end(alloc, "a witness is too long", &ended)
+}
+
+// What is told of long files.
+fn told_all_long<R: Threads + Sync>(rt: &R, alloc: Global) -> Result<Vec<u8>, AllocError> {
+    let most = DESCRIPTION_LIMIT;
+    let mut report = told_long(rt, alloc, "a description is long", "show", most)?;
+    let longer = told_long(rt, alloc, "a description is too long", "show", most + 1)?;
+    report.extend_from_slice(&longer)?;
+    report.extend_from_slice(&told_long_certificate(rt, alloc)?)?;
+    report.extend_from_slice(&told_long(rt, alloc, "a list is long", "batch", most)?)?;
+    let longer = told_long(rt, alloc, "a list is too long", "batch", most + 1)?;
+    report.extend_from_slice(&longer)?;
+    report.extend_from_slice(&told_long_witness(rt, alloc)?)?;
+    Ok(report)
 }
 
 // The calls of objects that fail.
@@ -188,9 +218,6 @@ pub(crate) fn fault_report<R: Threads + Sync>(
 ) -> Result<Vec<u8>, AllocError> {
     let mut report = told_faults(rt, alloc)?;
     report.extend_from_slice(&told_sure(rt, alloc)?)?;
-    let most = DESCRIPTION_LIMIT;
-    report.extend_from_slice(&told_long(rt, alloc, "a description is long", most)?)?;
-    report.extend_from_slice(&told_long(rt, alloc, "a description is too long", most + 1)?)?;
-    report.extend_from_slice(&told_long_certificate(rt, alloc)?)?;
+    report.extend_from_slice(&told_all_long(rt, alloc)?)?;
     Ok(report)
 }

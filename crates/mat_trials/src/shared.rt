@@ -2,6 +2,7 @@
 
 use crate::calls::{Ended, ended_alone, ended_beside, ended_jobs};
 use crate::cases::Case;
+use mat_top::Status;
 use std::alloc::{AllocError, Global};
 use std::thread::Threads;
 
@@ -42,7 +43,7 @@ pub(crate) fn ended_of<R: Threads + Sync>(
     }
 }
 
-/// Whether a case, whose words have no option, writes these bytes for each number of workers.
+/// Whether a case, whose words have no option, is done and writes these bytes for each number of workers.
 pub(crate) fn is_same_for_all<R: Threads + Sync>(
     rt: &R,
     alloc: Global,
@@ -52,7 +53,7 @@ pub(crate) fn is_same_for_all<R: Threads + Sync>(
     for number in WORKERS.iter() {
         let words = with_workers(alloc, &case.words, *number)?;
         let ended = ended_of(rt, alloc, case, &words)?;
-        if ended.out.taken() != text {
+        if ended.status != Status::Done || ended.out.taken() != text {
             return Ok(false);
         }
     }

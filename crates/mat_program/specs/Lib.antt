@@ -1,0 +1,4 @@
+pub mod Ends
+pub mod Tasks
+pub mod Traces
+pub mod Views
