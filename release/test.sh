@@ -75,17 +75,33 @@ run_over() {
     if [ -e "$file" ]; then run "$@"; else cannot "$1" "$why"; fi
 }
 
+# The tests of the Python module, if its library was built after the program.
+run_python_module() {
+    if [ -n "$(find bindings/out/libmatbench.so -newer "$program" 2>/dev/null)" ]; then
+        run_by python3 "the Python module" python3 bindings/tests/python_module.py
+    else
+        cannot "the Python module" "bindings/build.sh has not built it since the program was built"
+    fi
+}
+
 # What needs no browser and no kit, and takes less than a minute. No part of it depends on how fast the machine is.
 run_quick() {
     run_by python3 "what the documents show" python3 tests/shown.py "$program"
     run_by python3 "tables of spreadsheets" python3 tests/spreadsheets.py 40 1 "$program"
     run_by python3 "random problems" python3 tests/soak.py --problems 40 1 "$program"
-    run_over bindings/out/libmatbench.so "bindings/build.sh has not built it" \
-        "the Python module" python3 bindings/tests/python_module.py
+    run_python_module
     run_by mandoc "the man page" mandoc -Tlint -Wwarning docs/matbench.1
 }
 
-# Runs shellcheck over each shell script of the repository.
+# Runs shellcheck over each shell script of the repository, if it is here and git knows them.
+run_shellcheck() {
+    if has shellcheck && git ls-files --error-unmatch matbench >/dev/null 2>&1; then
+        run "the shell scripts" check_scripts
+    else
+        cannot "the shell scripts" "there is no shellcheck, or this is no checkout of git"
+    fi
+}
+
 check_scripts() {
     git ls-files -z | xargs -0 grep -lZE '^#!/bin/(sh|bash)' | xargs -0 shellcheck -x
 }
@@ -103,7 +119,7 @@ run_all() {
     run_by python3 "what the documents show" python3 tests/shown.py "$program"
     run_by python3 "tables of spreadsheets" python3 tests/spreadsheets.py 100 1 "$program"
     run_by mandoc "the man page" mandoc -Tlint docs/matbench.1
-    run_by shellcheck "the shell scripts" check_scripts
+    run_shellcheck
     run "the launcher" env --default-signal=INT tests/launcher_test.sh
     run_reports
     run_by cc "memory that is refused" python3 tests/refused_memory.py "$program"
