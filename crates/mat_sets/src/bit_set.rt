@@ -102,9 +102,10 @@ impl BitSet {
         Ok(())
     }
 
-    /// Puts in all members of a row, 64 numbers at a time. The only error is want of memory.
+    /// Puts in all members of a row, 64 numbers at a time. After an error the set is as before.
     pub fn unite_row(&mut self, row: &BitRow) -> Result<(), AllocError>
-        ensures { OnOk result ((x : ℕ) → is_member x self.new ≡ (is_member x self.old || is_member x row.now)) }
+        ensures ok { OnOk result ((x : ℕ) → is_member x self.new ≡ (is_member x self.old || is_member x row.now)) }
+        ensures err { OnErr result (self.new ≡ self.old) }
     {
         let words = row.as_words();
         make_room(&mut self.words, words.len())?;

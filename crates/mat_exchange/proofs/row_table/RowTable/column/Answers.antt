@@ -11,7 +11,7 @@ returns c = λ x.
     let y = c.args.y in
     let base = c.self.inside.base in
     let all = is_member y base in
-    c.in_ok-unite_row.ensures x ∙ ap (λ b. b || is_member x c.row.result.now) (c.in_ok-column.ensures x)
+    c.in_ok-unite_row.ensures.ok x ∙ ap (λ b. b || is_member x c.row.result.now) (c.in_ok-column.ensures x)
     ∙ ap (λ b. cond all (is_member x c.self.inside.addable) false || b)
     (ap (is_member x) c.row.ensures ∙ column_tells base c.self.invariant _ c.self.view_is y x c.requires)
     ∙ whole_column base c.self.invariant _ c.self.view_is y x all refl

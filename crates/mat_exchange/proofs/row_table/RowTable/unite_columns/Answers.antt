@@ -18,5 +18,5 @@ loop-y-preserved c =
     let i = c.loop-y.y-index in
     let below = AllBelow-at (length c.args.self.now) c.args.members.now i c.requires c.loop-y-test.true in
     AreUnited-more (exchanges_in c.args.self.now) c.args.members.now i c.args.into.now c.loop-y.into _ c.row.result.now c.loop-y-test.true c.loop-y.invariant
-    c.in_ok-unite_row.ensures
+    c.in_ok-unite_row.ensures.ok
     (λ x. ap (is_member x) c.row.ensures ∙ column_tells c.self.inside.base c.self.invariant _ c.self.view_is (get_or c.args.members.now i 0) x below)

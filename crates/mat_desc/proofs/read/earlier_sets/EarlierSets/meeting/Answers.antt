@@ -23,6 +23,6 @@ loop-x-preserved c =
     let all = rw (sym c.self.view_is) at c.requires in
     AreMeeting-more c.self.inside.sets.items table c.args.next.now i c.loop-x.places c.unite_row.new.self c.self.invariant inside
     (AllBelow-at (length table) c.args.next.now i all inside)
-    (λ a. c.in_ok-unite_row.ensures a ∙ ap (λ r. is_member a c.loop-x.places || is_member a r)
+    (λ a. c.in_ok-unite_row.ensures.ok a ∙ ap (λ r. is_member a c.loop-x.places || is_member a r)
     (c.row.ensures ∙ ap (λ s. row_at table (get_or s i 0)) items))
     c.loop-x.invariant
