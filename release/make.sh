@@ -22,7 +22,7 @@ fail() {
 
 # Ends if something is missing that a release needs.
 end_if_lacking_tools() {
-    for needed in rt cc git gzip python3 sha256sum xz; do
+    for needed in rt git gzip python3 sha256sum; do
         command -v "$needed" >/dev/null 2>&1 || fail "there is no command $needed"
     done
     changed=$(cd "$top" && list_inputs status --porcelain --) || fail "this is no checkout of git"
@@ -70,7 +70,7 @@ matbench $version for Linux on x86-64, made by \`release/make.sh\` and by nothin
 | proved by | $(rt version) |
 | the gate, \`rt ci\`, over these sources | $said |
 | the program | $(wc -c <"$program") bytes; its checksum is \`$(entry program "$made/CONTENTS")\` |
-| what is not proved was compiled and packed by | $(cc --version | head -n 1); $(gzip --version | head -n 1); $(python3 --version) with zlib $(python3 -c 'import zlib; print(zlib.ZLIB_RUNTIME_VERSION)'); $(xz --version | head -n 1) |
+| packed by | $(gzip --version | head -n 1); $(python3 --version) with zlib $(python3 -c 'import zlib; print(zlib.ZLIB_RUNTIME_VERSION)') |
 
 | file | bytes | what it is |
 |---|---|---|
