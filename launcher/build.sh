@@ -44,7 +44,7 @@ guard() {
     read -r _
     leader=$(cat "$room/leader" 2>/dev/null)
     case $(readlink "/proc/${leader:-none}/cwd") in
-        "$room"/*) kill -s TERM -- "-$leader" ;;
+        "$room"/*) kill -TERM "-$leader" ;;
     esac
     rm -rf "$room" 2>/dev/null || { sleep 1 && rm -rf "$room"; }
 }
