@@ -6,13 +6,13 @@
 #     tests/launcher_test.sh [SHELL..]
 #
 # Each SHELL, "bash --posix", say, runs the launcher; without one, those that are here of dash, bash --posix and busybox sh. Each
-# line tells what was seen; the status is 1 where one of them is wrong.
+# check has a line that tells what was seen; the last line counts, and the status is 1 if one is wrong.
 set -u
 top=$(dirname -- "$(dirname -- "$(readlink -f -- "$0")")")
 work=$(mktemp -d) && chmod 755 "$work" || exit 1
 trap 'rm -rf "$work"' EXIT
 trap 'exit 1' HUP INT TERM
-wrongs=0
+rights=0 wrongs=0
 answer="an answer to intersect file"
 
 # Makes the stand-in: `rt doc`, and `rt ci`, of all or of a crate that stands on none, to which each crate takes STAND_IN_SECONDS. A crate with the word WRONG is not proved, and
@@ -158,6 +158,7 @@ start() {
 tell() {
     if [ "$2" = "$3" ]; then
         echo "ok: $1: $2"
+        rights=$((rights + 1))
     else
         echo "WRONG: $1: $2, and not $3"
         wrongs=$((wrongs + 1))
@@ -554,5 +555,5 @@ else
     ! command -v bash >/dev/null || try_shell "bash --posix"
     ! command -v busybox >/dev/null || try_shell "busybox sh"
 fi
-echo "wrong: $wrongs"
+echo "$rights passed, $wrongs failed"
 [ "$wrongs" = 0 ]
