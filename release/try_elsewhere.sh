@@ -318,6 +318,21 @@ prepare() {
     return 1
 }
 
+# Loads the library of the wheel, if the module is not for the Python of the system. The tag of the wheel says which glibc is enough for it.
+try_library() {
+    tag=$(find "$clone/release" -name 'matbench-*.whl' | sed 's/.*manylinux_2_\([0-9]*\)_.*/\1/')
+    if [ "${glibc#2.}" -lt "$tag" ]; then
+        not_run "the library of the wheel" "its tag asks for glibc 2.$tag"
+        return
+    fi
+    call python3 -c 'import ctypes, pathlib, zipfile
+[wheel] = pathlib.Path("release").glob("matbench-*.whl")
+zipfile.ZipFile(wheel).extractall("/tmp/library")
+[library] = pathlib.Path("/tmp/library").rglob("libmatbench.so")
+print(ctypes.CDLL(str(library)).matbench_call is not None)'
+    expect "the library of the wheel can be loaded with glibc $glibc" printed True
+}
+
 was_refused_by_pip() {
     [ "$status" -ne 0 ] && grep -qi 'requires a different python\|not a supported wheel' "$work/err"
 }
@@ -329,6 +344,7 @@ try_wheel() {
     call sh -c 'python3 -m venv /tmp/wheel && /tmp/wheel/bin/pip install --no-index release/matbench-*.whl'
     if [ "${python#3.}" -lt 10 ]; then
         expect "pip says that the wheel is not for Python $python" was_refused_by_pip
+        try_library
         return
     fi
     expect "pip installs the wheel without a network, in Python $python with glibc $glibc" [ "$status" -eq 0 ]
