@@ -215,6 +215,14 @@ try_nothing_is_there() {
     expect "no network is there" [ "$status" -eq 0 ]
 }
 
+# What release/PROVENANCE.md says of the files. The launcher names it in its first line.
+try_files() {
+    call grep -c '^| `matbench' release/PROVENANCE.md
+    expect "release/PROVENANCE.md is there, and names files" [ "$status" -eq 0 ]
+    call sh -c 'cd release && sha256sum --quiet -c SHA256SUMS'
+    expect "the files of the release have the checksums of SHA256SUMS" [ "$status" -eq 0 ]
+}
+
 try_first_calls() {
     began=$(date +%s%3N)
     call $answer_of_people
@@ -287,6 +295,7 @@ try_program() {
     elif [ "${glibc#2.}" -lt "${oldest_glibc#2.}" ]; then
         try_old_system
     else
+        try_files
         try_first_calls
         try_other_user
         try_prove
