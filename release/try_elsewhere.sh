@@ -61,6 +61,7 @@ end_if_no_part() {
     done
 }
 
+# Ends if something is missing that it needs.
 end_if_lacking() {
     for needed in debootstrap git tar timeout unshare; do
         command -v "$needed" >/dev/null 2>&1 || fail "there is no command $needed"
@@ -113,7 +114,8 @@ make_system() {
             tail -n 3 "$work/log" >&2
             fail "debootstrap could not make Debian $suite"
         }
-        [ -z "${BASE:-}" ] || tar -C "$root" --numeric-owner -cf "$BASE" . || fail "the system could not be packed into $BASE"
+        [ -z "${BASE:-}" ] || { tar -C "$root" --numeric-owner -cf "$BASE.new" . && mv -f "$BASE.new" "$BASE"; } ||
+            fail "the system could not be packed into $BASE"
     fi
     cat /etc/resolv.conf >"$root/etc/resolv.conf"
     mkdir -p "$root/root/.local/bin"
