@@ -61,6 +61,7 @@ end_if_no_part() {
     done
 }
 
+# Ends if something is missing that it needs.
 end_if_lacking() {
     for needed in debootstrap git tar timeout unshare; do
         command -v "$needed" >/dev/null 2>&1 || fail "there is no command $needed"
@@ -113,7 +114,8 @@ make_system() {
             tail -n 3 "$work/log" >&2
             fail "debootstrap could not make Debian $suite"
         }
-        [ -z "${BASE:-}" ] || tar -C "$root" --numeric-owner -cf "$BASE" . || fail "the system could not be packed into $BASE"
+        [ -z "${BASE:-}" ] || { tar -C "$root" --numeric-owner -cf "$BASE.new" . && mv -f "$BASE.new" "$BASE"; } ||
+            fail "the system could not be packed into $BASE"
     fi
     cat /etc/resolv.conf >"$root/etc/resolv.conf"
     mkdir -p "$root/root/.local/bin"
@@ -215,6 +217,14 @@ try_nothing_is_there() {
     expect "no network is there" [ "$status" -eq 0 ]
 }
 
+# What release/PROVENANCE.md says of the files. The launcher names it in its first line.
+try_files() {
+    call grep -c '^| `matbench' release/PROVENANCE.md
+    expect "release/PROVENANCE.md is there, and names files" [ "$status" -eq 0 ]
+    call sh -c 'cd release && sha256sum --quiet -c SHA256SUMS'
+    expect "the files of the release have the checksums of SHA256SUMS" [ "$status" -eq 0 ]
+}
+
 try_first_calls() {
     began=$(date +%s%3N)
     call $answer_of_people
@@ -287,6 +297,7 @@ try_program() {
     elif [ "${glibc#2.}" -lt "${oldest_glibc#2.}" ]; then
         try_old_system
     else
+        try_files
         try_first_calls
         try_other_user
         try_prove
@@ -318,6 +329,21 @@ prepare() {
     return 1
 }
 
+# Loads the library of the wheel, if the module is not for the Python of the system. The tag of the wheel says which glibc is enough for it.
+try_library() {
+    tag=$(find "$clone/release" -name 'matbench-*.whl' | sed 's/.*manylinux_2_\([0-9]*\)_.*/\1/')
+    if [ "${glibc#2.}" -lt "$tag" ]; then
+        not_run "the library of the wheel" "its tag asks for glibc 2.$tag"
+        return
+    fi
+    call python3 -c 'import ctypes, pathlib, zipfile
+[wheel] = pathlib.Path("release").glob("matbench-*.whl")
+zipfile.ZipFile(wheel).extractall("/tmp/library")
+[library] = pathlib.Path("/tmp/library").rglob("libmatbench.so")
+print(ctypes.CDLL(str(library)).matbench_call is not None)'
+    expect "the library of the wheel can be loaded with glibc $glibc" printed True
+}
+
 was_refused_by_pip() {
     [ "$status" -ne 0 ] && grep -qi 'requires a different python\|not a supported wheel' "$work/err"
 }
@@ -329,6 +355,7 @@ try_wheel() {
     call sh -c 'python3 -m venv /tmp/wheel && /tmp/wheel/bin/pip install --no-index release/matbench-*.whl'
     if [ "${python#3.}" -lt 10 ]; then
         expect "pip says that the wheel is not for Python $python" was_refused_by_pip
+        try_library
         return
     fi
     expect "pip installs the wheel without a network, in Python $python with glibc $glibc" [ "$status" -eq 0 ]
