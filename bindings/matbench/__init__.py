@@ -14,11 +14,19 @@ each way in which it refuses. docs/FORMATS.md has the formats and the words used
 costs are whole numbers from -10^12 to 10^12 in whatever unit the description has, and a sum of them
 is exact. A weight is an int, or a Weight where it has a second number, which breaks ties.
 
+A Description is made of plain data by pair, listed, graph, rooted, coloured and table, and of a
+graph of networkx by graph_description and the like. The classes Uniform to UnionOf are the kinds of
+matroids for pair and listed.
+
 The functions may be called in several threads at once, and a call leaves the other threads of
-Python running. A call cannot be interrupted: one that may be long is best made in a process of its
-own (multiprocessing). The library is libmatbench.so in this folder, beside it or in out/ beside it,
-or the file that the environment variable MATBENCH_LIBRARY names. The first call loads it.
-__version__ is the version of the program in it.
+Python running. Ctrl-C in the main thread raises KeyboardInterrupt, and each function takes
+`timeout`, a number of seconds after which it raises TimeoutError. The call itself goes on then in a
+thread of its own until it ends, with its memory and a processor, and its answer is dropped: only
+the end of the process ends it before.
+
+The library is libmatbench.so in this folder, beside it or in out/ beside it, or the file that the
+environment variable MATBENCH_LIBRARY names. The first call loads it. __version__ is the version of
+the program in it.
 """
 from __future__ import annotations
 
@@ -35,20 +43,25 @@ from matbench.commands import (arborescence, assign, best, check, convert, cover
 from matbench.descriptions import Description, Problem
 from matbench.graphs import (coloured_description, forests_description, graph_description,
                              rooted_description, table_description)
+from matbench.matroids import (Binary, Contract, Dual, Gammoid, Graphic, Laminar, Matroid,
+                               Partition, Restrict, Transversal, Truncate, Uniform, UnionOf)
+from matbench.problems import coloured, graph, listed, pair, rooted, table
 from matbench.refusals import (BadCertificate, BadCost, BadDescription, BadList, BadWitness,
                                FaultyText, MatbenchError, NoLibrary, NotRight, OutOfMemory,
                                ReadFault, TooLong, UsageError, Unwitnessed, WriteFault, WrongShape)
 from matbench.weights import Weight
 
 __all__ = [
-    "MOST_JOBS", "ROOM", "Answer", "Arborescence", "BadCertificate", "BadCost", "BadDescription",
-    "BadList", "BadWitness", "Covering", "Description", "DisjointArborescences", "Ended",
-    "FaultyText", "Ladder", "Level", "MatbenchError", "NoLibrary", "NotRight", "OutOfMemory",
-    "Packing", "Price", "PricedArborescence", "Problem", "ReadFault", "Rung", "TooLong", "Trees",
-    "Union", "Unwitnessed", "UsageError", "Verdict", "Weight", "WriteFault", "WrongShape",
-    "arborescence", "assign", "batch", "best", "call", "check", "coloured_description", "convert",
-    "cover", "cuts", "disjoint", "forests_description", "graph_description", "intersect", "pack",
-    "picture", "rainbow", "read_answer", "rooted_description", "sample", "show",
+    "Answer", "Arborescence", "BadCertificate", "BadCost", "BadDescription", "BadList",
+    "BadWitness", "Binary", "Contract", "Covering", "Description", "DisjointArborescences", "Dual",
+    "Ended", "FaultyText", "Gammoid", "Graphic", "Ladder", "Laminar", "Level", "MOST_JOBS",
+    "MatbenchError", "Matroid", "NoLibrary", "NotRight", "OutOfMemory", "Packing", "Partition",
+    "Price", "PricedArborescence", "Problem", "ROOM", "ReadFault", "Restrict", "Rung", "TooLong",
+    "Transversal", "Trees", "Truncate", "Uniform", "Union", "UnionOf", "Unwitnessed", "UsageError",
+    "Verdict", "Weight", "WriteFault", "WrongShape", "arborescence", "assign", "batch", "best",
+    "call", "check", "coloured", "coloured_description", "convert", "cover", "cuts", "disjoint",
+    "forests_description", "graph", "graph_description", "intersect", "listed", "pack", "pair",
+    "picture", "rainbow", "read_answer", "rooted", "rooted_description", "sample", "show", "table",
     "table_description", "tell", "trees", "union", "verify", "version", "witness"]
 
 if TYPE_CHECKING:

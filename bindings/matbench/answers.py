@@ -18,13 +18,16 @@ class Answer:
     certificate: str = dataclasses.field(repr=False)
     problem: Description = dataclasses.field(repr=False, compare=False)
 
-    def told(self) -> str:
-        """The answer in words, as the function tell has it."""
-        return shown("--tell", self.problem.text, self.certificate.encode())
+    def _files(self) -> dict[str, bytes]:
+        return {"f": self.problem.text, "c": self.certificate.encode()}
 
-    def picture(self) -> str:
+    def told(self, timeout: float | None = None) -> str:
+        """The answer in words, as the function tell has it."""
+        return shown("--tell", self._files(), timeout)
+
+    def picture(self, timeout: float | None = None) -> str:
         """The answer as an SVG, as the function picture has it."""
-        return shown("--picture", self.problem.text, self.certificate.encode())
+        return shown("--picture", self._files(), timeout)
 
     def _repr_svg_(self) -> str | None:
         """What a notebook shows: the picture."""
@@ -152,12 +155,12 @@ class PricedArborescence(Answer):
     prices: tuple[Price, ...] | None
     unreached: tuple[Any, ...] | None
 
-    def told(self) -> str:
+    def told(self, timeout: float | None = None) -> str:
         """Raises TypeError."""
         raise TypeError("an answer of cuts is not told: that of arborescence for the same problem"
                         " is")
 
-    def picture(self) -> str:
+    def picture(self, timeout: float | None = None) -> str:
         """Raises TypeError."""
         raise TypeError("an answer of cuts is not drawn: that of arborescence for the same problem"
                         " is")

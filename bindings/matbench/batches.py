@@ -2,6 +2,7 @@
 from __future__ import annotations
 
 import re
+import time
 from collections.abc import Mapping, Sequence
 from typing import TypeAlias
 
@@ -36,13 +37,18 @@ def _line(place: int, job: Job) -> str:
     return " ".join(["job", *words, f"f{place}"])
 
 
-def _call_with_room(words: Sequence[str], files: Mapping[str, bytes], most: int) -> Ended:
+def _call_with_room(words: Sequence[str], files: Mapping[str, bytes], most: int,
+                    timeout: float | None) -> Ended:
     """A call whose output has room in that of one answer, or else in `most` bytes."""
-    ended = call(words, files, min(ROOM, most))
-    return call(words, files, most) if ended.status == WriteFault.status else ended
+    began = time.monotonic()
+    ended = call(words, files, min(ROOM, most), timeout)
+    if ended.status != WriteFault.status:
+        return ended
+    left = None if timeout is None else max(0, timeout - (time.monotonic() - began))
+    return call(words, files, most, left)
 
 
-def batch(jobs: Sequence[Job], workers: int = 1) -> list[Answer]:
+def batch(jobs: Sequence[Job], workers: int = 1, timeout: float | None = None) -> list[Answer]:
     """The answers of up to 32 jobs, or none where one of them is refused. A job is a tuple of the
     name of a command but cuts, its problem, and for trees and disjoint the count:
     ("intersect", text), ("trees", text, 2)."""
@@ -52,7 +58,7 @@ def batch(jobs: Sequence[Job], workers: int = 1) -> list[Answer]:
     files = {f"f{place}": problem.text for place, problem in enumerate(problems)}
     files["list"] = "\n".join(["jobs 1", *lines, "end", ""]).encode()
     room = ROOM * max(1, min(len(jobs), MOST_JOBS))
-    ended = _call_with_room(words_of("batch", workers, "list"), files, room)
+    ended = _call_with_room(words_of("batch", workers, "list"), files, room, timeout)
     text = done(ended, *(job[1] for job in jobs))
     certificates = [part + "\nend\n" for part in text.split("\nend\n")[:-1]]
     return [read_answer(problem, it) for problem, it in zip(problems, certificates)]

@@ -7,11 +7,15 @@ from collections.abc import Mapping, Sequence
 from dataclasses import dataclass
 
 from matbench import library
-from matbench.refusals import BY_STATUS, FaultyText, MatbenchError, OutOfMemory
+from matbench.descriptions import Description
+from matbench.refusals import BY_STATUS, BadDescription, FaultyText, MatbenchError, OutOfMemory
+from matbench.waiting import interruptibly
 
 #: Bytes in which each answer has room, but that of batch.
 ROOM = 1 << 26
 _NOTE_ROOM = 256
+#: Texts of so many bytes together, without the word union, are answered in less than 0.1 seconds.
+_SHORT = 400
 #: What a fault of a text without a line end says besides: it is most likely the name of a file.
 _NO_FILE = "a str is the text itself: give the path of a file as pathlib.Path"
 
@@ -34,10 +38,16 @@ def _memory(room: int) -> mmap.mmap:
         raise OutOfMemory(OutOfMemory.status, "refused: memory") from error
 
 
-def call(words: Sequence[str], files: Mapping[str, bytes], room: int = ROOM) -> Ended:
+def _is_short(texts: Sequence[bytes]) -> bool:
+    """Whether a call about these texts takes no longer than anyone waits before Ctrl-C."""
+    return 0 < sum(map(len, texts)) <= _SHORT and not any(b"union" in text for text in texts)
+
+
+def call(words: Sequence[str], files: Mapping[str, bytes], room: int = ROOM,
+         timeout: float | None = None) -> Ended:
     """Does what the program does for these words, such as ["intersect", "f"], over these files by
     their names, and raises nothing for a refusal. The output has room in so many bytes; a longer
-    one ends with the status 6 and is cut off."""
+    one ends with the status 6 and is cut off. After `timeout` seconds it raises TimeoutError."""
     texts = [word.encode() for word in words]
     names = [name.encode() for name in files]
     if any(b"\0" in text for text in [*texts, *names]):
@@ -52,15 +62,32 @@ def call(words: Sequence[str], files: Mapping[str, bytes], room: int = ROOM) -> 
     noted = library.Buffer(ctypes.addressof(note), _NOTE_ROOM, 0)
     given = (library.File * len(files))(
         *(library.File(name, data, len(data)) for name, data in zip(names, files.values())))
-    status = function((ctypes.c_char_p * (len(texts) + 1))(*texts, None), given,
-                      ctypes.c_size_t(len(files)), ctypes.byref(output), ctypes.byref(noted))
+    listed = (ctypes.c_char_p * (len(texts) + 1))(*texts, None)
+
+    def run() -> int:
+        return int(function(listed, given, ctypes.c_size_t(len(files)), ctypes.byref(output),
+                            ctypes.byref(noted)))
+
+    is_quick = timeout is None and _is_short(list(files.values()))
+    status = run() if is_quick else interruptibly(run, timeout)
     return Ended(status, memory[: output.length], note.raw[: noted.length].decode().rstrip("\n"))
+
+
+def _refusal(ended: Ended, texts: tuple[object, ...]) -> MatbenchError:
+    """The refusal of a call about these texts. Where a Description is at fault, whose text its user
+    has not written, it has the line that is wrong."""
+    error = BY_STATUS.get(ended.status, MatbenchError)(ended.status, ended.note)
+    made = [it for it in texts if isinstance(it, Description)]
+    if isinstance(error, BadDescription) and len(made) == 1:
+        line = made[0].text.decode("latin1").split("\n")[error.line - 1]
+        error = BadDescription(ended.status, ended.note, f"the line is {line[:200]!r}")
+    return error
 
 
 def done(ended: Ended, *texts: object) -> str:
     """The output of a call about these texts that was not refused. Else raises the refusal."""
     if ended.status:
-        error = BY_STATUS.get(ended.status, MatbenchError)(ended.status, ended.note)
+        error = _refusal(ended, texts)
         is_name = any(isinstance(text, str) and "\n" not in text for text in texts)
         if isinstance(error, FaultyText) and is_name and hasattr(error, "add_note"):
             error.add_note(_NO_FILE)

@@ -2,12 +2,17 @@
 from __future__ import annotations
 
 import os
+import re
 from collections.abc import Hashable, Iterable, Sequence
 from dataclasses import dataclass
 from typing import Any, TypeAlias
 
-from matbench.refusals import TooLong
+from matbench.refusals import BadDescription, TooLong
 
+#: A description has at most so many elements, vertices, colours, rows and columns.
+MOST = 500
+#: A list has at most so many matroids, and so has a union.
+MOST_MATROIDS = 64
 #: The bytes that a description or a list of jobs may have, and a certificate or a witness.
 MOST_OF_DESCRIPTION, MOST_OF_CERTIFICATE = 4_194_304, 67_108_864
 #: A text as a function takes it: itself, its bytes, or a path to its file.
@@ -73,3 +78,19 @@ def bytes_of(text: Text, most: int) -> bytes:
 def labels_of(labels: Sequence[Hashable] | None, numbers: Iterable[str]) -> tuple[Any, ...]:
     """What stands in answers for these numbers."""
     return tuple(int(it) if labels is None else labels[int(it)] for it in numbers)
+
+
+def names_of(letter: str, words: Iterable[str]) -> list[str]:
+    """Names for things: these words, with _ for a space, where they are names and all different,
+    else a letter and their numbers."""
+    found = [word.replace(" ", "_") for word in words]
+    are_names = all(len(word) <= 32 and re.fullmatch("[!-~]+", word) for word in found)
+    if are_names and len(set(found)) == len(found):
+        return found
+    return [f"{letter}{place}" for place in range(len(found))]
+
+
+def out_of_range(sentence: str, line: int) -> BadDescription:
+    """What the program would say of a number out of its range in this line, with a sentence."""
+    note = f"refused: description 5 NumberRange line {line}"
+    return BadDescription(BadDescription.status, note, sentence)

@@ -10,16 +10,12 @@ number.
 """
 from __future__ import annotations
 
-import re
 from collections.abc import Hashable, Iterable, Mapping, Sequence
 from typing import Any, Protocol, TypeAlias
 
-from matbench.descriptions import Description
-from matbench.refusals import BadDescription
+from matbench.descriptions import MOST, Description, names_of, out_of_range
 from matbench.weights import spelling
 
-#: A description has at most so many elements, vertices, colours, rows and columns.
-MOST = 500
 #: The attribute that weighs an edge where none is named.
 WEIGHT = "weight"
 
@@ -54,13 +50,13 @@ def _hold_to_kind(graph: Graph, is_directed: bool) -> None:
         raise TypeError(f"the graph {wanted} directed")
 
 
-def _hold_to_range(count: int, what: str, least: int = 0, line: int = 2) -> None:
+def _hold_to_range(count: int, what: str, least: int = 0, line: int = 2,
+                   given: str = "graph") -> None:
     """Raises, as the program would for this line of the description, where there are too many or
     too few."""
     if not least <= count <= MOST:
-        sentence = f"the graph has {count} {what}, and a description has from {least} to {MOST}"
-        note = f"refused: description 5 NumberRange line {line}"
-        raise BadDescription(BadDescription.status, note, sentence)
+        sentence = f"the {given} has {count} {what}, and a description has from {least} to {MOST}"
+        raise out_of_range(sentence, line)
 
 
 def _edges(graph: Graph) -> tuple[_Edges, list[tuple[int, int]], _Data]:
@@ -82,25 +78,15 @@ def _weights(data: _Data, attribute: str) -> list[str]:
     return [spelling(it.get(attribute, 1)) for it in data]
 
 
-def _names(letter: str, words: Iterable[str]) -> list[str]:
-    """Names for things: these words, with _ for a space, where they are names and all different,
-    else a letter and their numbers."""
-    found = [word.replace(" ", "_") for word in words]
-    are_names = all(len(word) <= 32 and re.fullmatch("[!-~]+", word) for word in found)
-    if are_names and len(set(found)) == len(found):
-        return found
-    return [f"{letter}{place}" for place in range(len(found))]
-
-
 def _vertex_names(graph: Graph) -> list[str]:
-    return _names("v", map(str, graph.nodes))
+    return names_of("v", map(str, graph.nodes))
 
 
 def _description(form: str, lines: Iterable[str], edges: Sequence[tuple[Any, ...]],
                  nodes: Sequence[Hashable],
                  colours: Sequence[Hashable] | None = None) -> Description:
     """A description with names: its form line, and the lines behind the names of the elements."""
-    elements = " ".join(["elements", *_names("e", ("-".join(map(str, edge)) for edge in edges))])
+    elements = " ".join(["elements", *names_of("e", ("-".join(map(str, edge)) for edge in edges))])
     text = "\n".join(["matroids 2", form, elements, *lines, "end", ""])
     return Description(text.encode(), edges, nodes, colours)
 
@@ -169,6 +155,16 @@ def table_description(graph: Graph, rows: Iterable[Hashable], weight: str = WEIG
         cells.append(f"cell {row[at]} {column[across]} {weighs}")
         pairs.append((at, across, *rest))
     return _description(f"table {len(row)} {len(column)} {len(pairs)}", cells, pairs, [])
+
+
+def description_of_cells(rows: Sequence[Hashable], columns: Sequence[Hashable],
+                         cells: Sequence[tuple[int, int, Any]]) -> Description:
+    """The `table R C E` of cells: each is the numbers of its row and its column, and its weight."""
+    for count, what in ((len(rows), "rows"), (len(columns), "columns"), (len(cells), "cells")):
+        _hold_to_range(count, what, given="table")
+    lines = [f"cell {i} {j} {spelling(weight)}" for i, j, weight in cells]
+    pairs = [(rows[i], columns[j]) for i, j, _ in cells]
+    return _description(f"table {len(rows)} {len(columns)} {len(cells)}", lines, pairs, [])
 
 
 def forests_description(graph: Graph, weight: str = WEIGHT) -> Description:

@@ -11,7 +11,8 @@ from typing import Any
 @dataclass(frozen=True)
 class Weight:
     """A weight with a second number: `gain` counts, and `tie`, which is not 0, decides between
-    equal gains. Weights are compared with each other and with ints, which stand for a tie of 0."""
+    equal gains. Weights are compared, added and subtracted with each other and with ints, which
+    stand for a tie of 0. A sum is exact, and an int where its tie is 0."""
 
     gain: int
     tie: int
@@ -25,6 +26,23 @@ class Weight:
             return NotImplemented
         return pair_of(self) < pair_of(other)
 
+    def __add__(self, other: Weight | int) -> Weight | int:
+        if not isinstance(other, (Weight, int)):
+            return NotImplemented
+        gain, tie = pair_of(other)
+        return weight_of(self.gain + gain, self.tie + tie)
+
+    __radd__ = __add__
+
+    def __neg__(self) -> Weight:
+        return Weight(-self.gain, -self.tie)
+
+    def __sub__(self, other: Weight | int) -> Weight | int:
+        return self + -other if isinstance(other, (Weight, int)) else NotImplemented
+
+    def __rsub__(self, other: int) -> Weight | int:
+        return -self + other if isinstance(other, int) else NotImplemented
+
     def __str__(self) -> str:
         return f"{self.gain}:{self.tie}"
 
@@ -34,10 +52,15 @@ def pair_of(weight: Weight | int) -> tuple[int, int]:
     return (weight.gain, weight.tie) if isinstance(weight, Weight) else (weight, 0)
 
 
+def weight_of(gain: int, tie: int) -> Weight | int:
+    """The weight of these two numbers."""
+    return Weight(gain, tie) if tie else gain
+
+
 def read_weight(word: str) -> Weight | int:
     """The weight that a word of a text is."""
     gain, _, tie = word.partition(":")
-    return Weight(int(gain), int(tie)) if tie else int(gain)
+    return weight_of(int(gain), int(tie or 0))
 
 
 def read_weights(words: Iterable[str]) -> tuple[Weight | int, ...]:

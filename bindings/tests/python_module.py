@@ -3,6 +3,7 @@
 That its bytes are the program's, answers.py tests.
 """
 import _ctypes
+import inspect
 import os
 import pathlib
 import pickle
@@ -23,12 +24,12 @@ EXAMPLES = HERE.parent.parent / "examples"
 sys.path.insert(0, str(HERE.parent))
 
 import matbench  # noqa: E402
+from python_plain import PlainData, Weights  # noqa: E402,F401 (their tests run here too)
 
 try:
     import networkx
 except ImportError:
     networkx = None
-
 PATH = "matroids 1\ngraph 3 2\nedge 0 1\nedge 1 2\nend\n"
 TOWNS = EXAMPLES / "towns.txt"
 
@@ -397,6 +398,95 @@ class Refusals(unittest.TestCase):
         for _ in range(2000):
             matbench.intersect(text)
         self.assertLess(resource.getrusage(resource.RUSAGE_SELF).ru_maxrss - before, 4000)
+
+
+#: Makes a problem whose answer takes minutes, and then what {} says.
+LONG = """
+import os, signal, sys, threading, time
+import matbench
+half = matbench.UnionOf(*[matbench.Uniform(100)] * 2)
+problem = matbench.pair([it % 10 for it in range(400)],
+                        matbench.Dual(matbench.UnionOf(half, matbench.Uniform(100))),
+                        matbench.Dual(half))
+began = time.monotonic()
+{}
+print(time.monotonic() - began < 30)
+"""
+
+
+class Waiting(unittest.TestCase):
+    """Calls that take longer than their caller waits."""
+
+    def printed(self, script):
+        """What a script prints that works on a long problem."""
+        # From 3.12 on Python warns of a fork beside other threads.
+        done = subprocess.run([sys.executable, "-W", "ignore", "-c", LONG.format(script)],
+                              cwd=HERE.parent, capture_output=True, text=True, check=False,
+                              timeout=120)
+        self.assertEqual(done.stderr, "")
+        return done.stdout
+
+    def test_ctrl_c_ends_the_wait_and_the_process_can_end(self):
+        self.assertEqual(self.printed(
+            "threading.Timer(1, os.kill, (os.getpid(), signal.SIGINT)).start()\n"
+            "try: matbench.intersect(problem)\n"
+            "except KeyboardInterrupt: print('interrupted')"), "interrupted\nTrue\n")
+
+    def test_a_time_limit_ends_the_wait_in_any_thread(self):
+        self.assertEqual(self.printed(
+            "def work():\n"
+            "    try: matbench.intersect(problem, timeout=0.5)\n"
+            "    except TimeoutError as error: print(error)\n"
+            "work()\n"
+            "other = threading.Thread(target=work)\n"
+            "other.start()\n"
+            "other.join()\n"
+            "print(matbench.assign([[7]], timeout=20).best.weight)"),
+            "the call has not ended within 0.5 seconds\n" * 2 + "7\nTrue\n")
+
+    def test_a_limit_that_is_long_enough_changes_nothing(self):
+        people = EXAMPLES / "people.txt"
+        answer = matbench.intersect(people)
+        for timeout in (60, 1e300, float("inf")):
+            self.assertEqual(matbench.intersect(people, timeout=timeout), answer)
+        self.assertTrue(matbench.check(people, answer, timeout=60))
+        self.assertEqual(answer.told(timeout=60), matbench.tell(people, answer, timeout=60))
+        jobs = [("intersect", people)] * 2
+        self.assertEqual(matbench.batch(jobs, timeout=60), [answer, answer])
+        with self.assertRaises(matbench.BadDescription):
+            matbench.show("x", timeout=60)
+        for timeout in (-1, float("nan")):
+            with self.subTest(timeout=timeout), self.assertRaisesRegex(ValueError, "a timeout is"):
+                matbench.intersect(people, timeout=timeout)
+
+    def test_every_function_that_calls_takes_a_limit(self):
+        names = [name for name, it in vars(matbench).items()
+                 if inspect.isfunction(it) and it.__module__.endswith((".commands", ".batches"))]
+        self.assertGreater(len(names), 19)
+        for name in names:
+            with self.subTest(name=name):
+                self.assertIn("timeout", inspect.signature(getattr(matbench, name)).parameters)
+
+    def test_a_thread_is_started_only_where_it_is_needed(self):
+        people = EXAMPLES / "people.txt"
+        with unittest.mock.patch("_thread.start_new_thread", side_effect=RuntimeError) as start:
+            matbench.intersect(people)
+            self.assertEqual(start.call_count, 0)
+            # Where no thread can be started, a call without a limit is made without one.
+            self.assertIn("accepted", matbench.sample("pair", 2, 1))
+            self.assertEqual(start.call_count, 1)
+            with self.assertRaises(RuntimeError):
+                matbench.intersect(people, timeout=60)
+
+    def test_a_process_that_was_forked_during_a_call_makes_calls(self):
+        self.assertEqual(self.printed(
+            "threading.Thread(target=matbench.intersect, args=(problem,), daemon=True).start()\n"
+            "time.sleep(0.5)\n"
+            "child = os.fork()\n"
+            "if child == 0:\n"
+            "    found = matbench.sample('pair', 2, 1, workers=2, timeout=20)\n"
+            "    os._exit(0 if found.endswith('ladder 756 accepted') else 1)\n"
+            "print(os.waitpid(child, 0)[1])"), "0\nTrue\n")
 
 
 @unittest.skipIf(networkx is None, "networkx is not there")
