@@ -51,13 +51,42 @@ enum {
     MATBENCH_BAD_LIST = 14
 };
 
+/* What a status means, as docs/FORMATS.md has it. */
+static inline const char *matbench_status_text(int status) {
+    switch (status) {
+        case MATBENCH_NO_CALL: return "a pointer is null that must not be, or the processor has no x86-64-v2";
+        case MATBENCH_DONE: return "done";
+        case MATBENCH_NOT_RIGHT: return "the answer in a certificate is not right; a witness does not show its rung";
+        case MATBENCH_USAGE: return "the words of the call are no command, or a number among them is out of its range";
+        case MATBENCH_BAD_DESCRIPTION: return "the text is no description";
+        case MATBENCH_BAD_CERTIFICATE: return "the text is no certificate";
+        case MATBENCH_READ_FAULT: return "a file could not be opened or read";
+        case MATBENCH_WRITE_FAULT: return "the answer could not be written whole";
+        case MATBENCH_MEMORY: return "there was not enough memory";
+        case MATBENCH_TOO_LONG:
+            return "a description or a list of jobs has more than 4,194,304 bytes, a certificate or a witness more than 67,108,864";
+        case MATBENCH_WRONG_SHAPE:
+            return "the command, or the command of the certificate, does not take a description of this form; or for witness and verify the "
+                   "certificate is none of intersect, or has no rung RUNG";
+        case MATBENCH_UNWITNESSED: return "a matroid is of a kind that has no witnesses";
+        case MATBENCH_BAD_WITNESS: return "the text is no witness";
+        case MATBENCH_BAD_COST: return "for cuts a cost is below 0 or has a tie";
+        case MATBENCH_BAD_LIST: return "the text is no list of jobs";
+        default: return "this is no status of matbench";
+    }
+}
+
 /* Does what the program does for these words, such as "intersect", "people.txt", and a null pointer that ends them. It reads the given files
  * and no others, of two with one name the first, writes the answer to output, and the note of a refusal to note, which may be null. A note
  * has at most 100 bytes.
  *
  * The caller owes: each name is ended by a zero byte, each pointer reaches as many bytes as stand beside it, and output and note overlap
  * nothing else. Bytes that do not exist may be null. Calls in several threads at once are independent of each other; each needs up to
- * 262,144 bytes of stack. A call allocates by malloc, and has freed all of it when it returns. */
+ * 262,144 bytes of stack. A call allocates by malloc, and has freed all of it when it returns.
+ *
+ * A call changes no handling of signals. A signal does not end it, and a handler that runs meanwhile must not make a call, nor leave by longjmp.
+ * A process that was forked, also during a call of another thread, may make calls; a call that was under way does not go on in it, and its memory
+ * there is not freed. */
 int matbench_call(const char *const *words, const matbench_file *files, size_t file_count, matbench_buffer *output, matbench_buffer *note);
 
 #ifdef __cplusplus

@@ -98,6 +98,11 @@ make_caller line libmatbench_line
 line=$caller
 try_use "bad use of the C library" bad_use libmatbench
 try_use "bad use of the static library" line_use libmatbench_line
+if command -v cc >/dev/null; then
+    try "the texts of statuses" python3 "$bindings/tests/statuses.py"
+else
+    cannot "the texts of statuses" "there is no C compiler cc"
+fi
 if is_built "the Python module" libmatbench.so; then
     try "the Python module" python3 "$bindings/tests/python_module.py"
 fi
