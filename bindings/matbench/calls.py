@@ -14,7 +14,7 @@ from matbench.waiting import interruptibly
 #: Bytes in which each answer has room, but that of batch.
 ROOM = 1 << 26
 _NOTE_ROOM = 256
-#: Texts of so many bytes together, without the word union, are answered in less than 0.1 seconds.
+#: Of texts of so many bytes together, without the word union, none was found that takes 0.1 seconds.
 _SHORT = 400
 #: What a fault of a text without a line end says besides: it is most likely the name of a file.
 _NO_FILE = "a str is the text itself: give the path of a file as pathlib.Path"
