@@ -70,8 +70,14 @@ make_caller() {
     fi
 }
 
-# Tries the page and the module of the static library in a browser: try_browser BROWSER
+# Tries the module for JavaScript in node or in a browser: try_javascript ENGINE
+try_javascript() {
+    ! is_built "the module for JavaScript in $1" matbench.wasm || try "the module for JavaScript in $1" python3 "$bindings/tests/javascript.py" "$1"
+}
+
+# Tries the page and both modules in a browser: try_browser BROWSER
 try_browser() {
+    try_javascript "$1"
     ! is_built "the page in $1" matbench.html || try "the page in $1" env BROWSER="$1" python3 "$bindings/tests/page.py"
     if [ "$line" != - ] && is_built "the module of the static library in $1" matbench_line.wasm; then
         try "the module of the static library in $1" env BROWSER="$1" python3 "$bindings/tests/line_module.py" "$line"
@@ -110,6 +116,7 @@ if is_built "the programs of docs/BINDINGS.md" libmatbench.a && is_built "the pr
     try "the programs of docs/BINDINGS.md" python3 "$bindings/tests/documents.py"
 fi
 try_packages
+if command -v node >/dev/null; then try_javascript node; else cannot "the module for JavaScript in node" "there is no node"; fi
 [ -n "$chromium" ] || cannot "the page in Chromium" "there is no ${CHROMIUM:-chromium}"
 [ -n "$firefox" ] || cannot "the page in Firefox" "there is no ${FIREFOX:-firefox}"
 for browser in ${chromium:+"$chromium"} ${firefox:+"$firefox"}; do try_browser "$browser"; done

@@ -109,9 +109,16 @@ class Matrix(Protocol):
         """A row, or a part of the matrix."""
 
 
+def _is_frame(it: object) -> bool:
+    """Whether this is a frame of pandas, or of what has its methods."""
+    return hasattr(it, "to_numpy") and hasattr(it, "columns")
+
+
 def is_matrix(it: object) -> TypeGuard[Matrix]:
-    """Whether this is taken for a matrix, or a row of one."""
-    has_items = hasattr(it, "__getitem__") and hasattr(it, "__len__") and not hasattr(it, "edges")
+    """Whether this is taken for a matrix, or a row of one. What has edges is a graph, but for a
+    frame, which has an attribute for each of its columns."""
+    is_graph = hasattr(it, "edges") and not _is_frame(it)
+    has_items = hasattr(it, "__getitem__") and hasattr(it, "__len__") and not is_graph
     return has_items and not isinstance(it, (str, bytes, bytearray, memoryview, Mapping))
 
 
@@ -121,8 +128,8 @@ def table(matrix: Matrix, rows: Iterable[Hashable] | None = None,
     numpy, or a frame of pandas. A cell that is None cannot be chosen. A cell stands in answers as
     (row, column), by `rows` and `columns`, a frame's labels, or else numbers from 0."""
     given: Any = matrix
-    if hasattr(given, "to_numpy"):
-        rows = given.index if rows is None else rows
+    if _is_frame(given):
+        rows = getattr(given, "index", None) if rows is None else rows
         columns = given.columns if columns is None else columns
         given = given.to_numpy()
     lines = given.tolist() if hasattr(given, "tolist") else list(given)

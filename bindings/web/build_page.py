@@ -13,8 +13,8 @@ import sys
 import zlib
 
 HERE = os.path.dirname(os.path.abspath(__file__))
-PAGE = ("index.html", "style.css", "parts.mjs", "matbench.mjs", "worker.mjs", "run.mjs", "textbox.mjs", "link.mjs", "kept.mjs",
-        "answer.mjs", "page.mjs")
+PAGE = ("index.html", "style.css", "parts.mjs", "matbench.mjs", "matbench.d.mts", "worker.mjs", "run.mjs", "textbox.mjs", "link.mjs",
+        "kept.mjs", "answer.mjs", "page.mjs")
 #: The parts of the one file's script, each before those that take from it.
 SCRIPT = ("matbench.mjs", "run.mjs", "textbox.mjs", "link.mjs", "kept.mjs", "answer.mjs", "page.mjs")
 #: parts.mjs of the one file, and a function that takes what `packed` made.

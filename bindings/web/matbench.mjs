@@ -20,6 +20,23 @@ export function hasWideMemory() {
   return typeof WebAssembly === "object" && WebAssembly.validate(new Uint8Array([0, 97, 115, 109, 1, 0, 0, 0, 4, 4, 1, 112, 4, 0, 5, 3, 1, 4, 1]));
 }
 
+/**
+ * The compiled module, for `call`, of the bytes of matbench.wasm or of its address. It can be sent to workers. Fails where the engine has no 64-bit
+ * memory, or where there is nothing at the address.
+ */
+export async function load(source) {
+  if (!hasWideMemory()) throw new Error("this engine has no WebAssembly memory with 64-bit addresses (memory64), which the program needs");
+  return WebAssembly.compile(source instanceof ArrayBuffer || ArrayBuffer.isView(source) ? source : await bytesAt(new URL(source)));
+}
+
+/** The bytes at an address. Node reads no files by fetch. */
+async function bytesAt(address) {
+  if (address.protocol === "file:" && globalThis.process?.versions?.node) return (await import("node:fs/promises")).readFile(address);
+  const answer = await fetch(address);
+  if (!answer.ok) throw new Error(`${address}: ${answer.status} ${answer.statusText}`);
+  return answer.arrayBuffer();
+}
+
 /** The memory of an instance, in which texts and lists of numbers are laid out as matbench.h has them. */
 class Layout {
   constructor({ allocate, memory }) {
