@@ -20,7 +20,7 @@ def interruptibly(run: Callable[[], int], timeout: float | None) -> int:
     def work() -> None:
         try:
             answers.append(run())
-        except BaseException as error:  # pylint: disable=broad-except
+        except BaseException as error:
             answers.append(error)
         finally:
             running.release()

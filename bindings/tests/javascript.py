@@ -102,7 +102,7 @@ def faults_of_types(folder):
 
 
 def try_program(program, wanted, engine):
-    """How many faults a program has. It is run in a folder of its own."""
+    """Whether a program was run, and whether it has a fault. It has a folder of its own."""
     with tempfile.TemporaryDirectory() as name:
         folder = pathlib.Path(name)
         for path in (WEB / "matbench.mjs", WEB / "matbench.d.mts", OUT / "matbench.wasm"):
@@ -115,7 +115,7 @@ def try_program(program, wanted, engine):
         faults += f"the program prints\n{found}and not\n{wanted}"
     if faults:
         print(f"docs/BINDINGS.md, in {engine}: {faults}")
-    return 1 if faults else 0
+    return found is not None, bool(faults)
 
 
 def main():
@@ -129,8 +129,9 @@ def main():
     if not shutil.which("tsc"):
         print("not run: the types of matbench.d.mts: there is no command tsc")
     found = list(documents.examples(documents.TOP / "docs" / "BINDINGS.md", ("js",)))
-    wrong = sum(try_program(program, wanted, sys.argv[1]) for _, program, wanted in found)
-    print(f"javascript.py: {len(found)} programs, {wrong} wrong")
+    tried = [try_program(program, wanted, sys.argv[1]) for _, program, wanted in found]
+    wrong = sum(has_fault for _, has_fault in tried)
+    print(f"javascript.py: {sum(was_run for was_run, _ in tried)} programs run, {wrong} wrong")
     return 1 if wrong or not found else 0
 
 

@@ -455,6 +455,8 @@ class Waiting(unittest.TestCase):
         self.assertEqual(matbench.batch(jobs, timeout=60), [answer, answer])
         with self.assertRaises(matbench.BadDescription):
             matbench.show("x", timeout=60)
+        with self.assertRaises(ZeroDivisionError):
+            matbench.waiting.interruptibly(lambda: 1 // 0, 60)
         for timeout in (-1, float("nan")):
             with self.subTest(timeout=timeout), self.assertRaisesRegex(ValueError, "a timeout is"):
                 matbench.intersect(people, timeout=timeout)
