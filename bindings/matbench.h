@@ -84,9 +84,9 @@ static inline const char *matbench_status_text(int status) {
  * nothing else. Bytes that do not exist may be null. Calls in several threads at once are independent of each other; each needs up to
  * 262,144 bytes of stack. A call allocates by malloc, and has freed all of it when it returns.
  *
- * A call changes no handling of signals. A signal does not end it, and a handler that runs meanwhile must not make a call, nor leave by longjmp.
- * A process that was forked, also during a call of another thread, may make calls; a call that was under way does not go on in it, and its memory
- * there is not freed. */
+ * A call changes no handling of signals, and goes on behind a handler that returns. A handler must make no call, and must not leave one by
+ * longjmp. A process that was forked may make calls, also if it was forked during a call of another thread; that call does not go on in it, and
+ * keeps its memory there. */
 int matbench_call(const char *const *words, const matbench_file *files, size_t file_count, matbench_buffer *output, matbench_buffer *note);
 
 #ifdef __cplusplus
