@@ -14,7 +14,7 @@ from matbench.waiting import interruptibly
 #: Bytes in which each answer has room, but that of batch.
 ROOM = 1 << 26
 _NOTE_ROOM = 256
-#: Of texts of so many bytes together, without the word union, none was found that takes 0.1 seconds.
+#: Of texts of so many bytes in all, without the word union, none was found that takes 0.1 seconds.
 _SHORT = 400
 #: What a fault of a text without a line end says besides: it is most likely the name of a file.
 _NO_FILE = "a str is the text itself: give the path of a file as pathlib.Path"
@@ -74,7 +74,7 @@ def call(words: Sequence[str], files: Mapping[str, bytes], room: int = ROOM,
 
 
 def _refusal(ended: Ended, texts: tuple[object, ...]) -> MatbenchError:
-    """The refusal of a call about these texts. Where a Description is at fault, whose text its user
+    """The refusal of a call about these texts. If a Description is at fault, whose text its user
     has not written, it has the line that is wrong."""
     error = BY_STATUS.get(ended.status, MatbenchError)(ended.status, ended.note)
     made = [it for it in texts if isinstance(it, Description)]

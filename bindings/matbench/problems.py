@@ -1,8 +1,8 @@
 """Descriptions of plain data: weights and matroids, edges, and tables.
 
 Elements are numbers from 0 in the order of the weights, or the keys of a mapping that has a weight
-for each. An edge, an arc or a cell stands in answers as the tuple that was given for it. Keys,
-vertices, colours, rows and columns may be whatever can be the key of a dict.
+for each. An edge or an arc is in answers the tuple that was given for it, and a cell its row and
+its column. Keys, vertices, colours, rows and columns may be whatever can be the key of a dict.
 """
 from __future__ import annotations
 
@@ -125,7 +125,7 @@ def is_matrix(it: object) -> TypeGuard[Matrix]:
 def table(matrix: Matrix, rows: Iterable[Hashable] | None = None,
           columns: Iterable[Hashable] | None = None) -> Description:
     """The `table R C E` of a matrix of weights, for assign: a sequence of sequences, an array of
-    numpy, or a frame of pandas. A cell that is None cannot be chosen. A cell stands in answers as
+    numpy, or a frame of pandas. A cell that is None cannot be chosen. A cell is in answers
     (row, column), by `rows` and `columns`, a frame's labels, or else numbers from 0."""
     given: Any = matrix
     if _is_frame(given):

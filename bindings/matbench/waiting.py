@@ -7,7 +7,7 @@ from collections.abc import Callable
 
 
 def interruptibly(run: Callable[[], int], timeout: float | None) -> int:
-    """What a function answers. It runs in a thread of its own where the wait for it may have to end
+    """What a function answers. It runs in a thread of its own if the wait for it may have to end
     first: after `timeout` seconds, which raises TimeoutError, or in the main thread by Ctrl-C. The
     function goes on then, and what it answers is dropped."""
     if timeout is not None and not timeout >= 0:
@@ -27,7 +27,7 @@ def interruptibly(run: Callable[[], int], timeout: float | None) -> int:
 
     running.acquire()
     try:
-        # At the end of the process nothing waits for such a thread, as for one of threading.
+        # The process does not wait for such a thread when it ends.
         _thread.start_new_thread(work, ())
     except RuntimeError:
         # No thread can be started: there are too many, or the process is at its end.

@@ -12,7 +12,7 @@ from typing import Any
 class Weight:
     """A weight with a second number: `gain` counts, and `tie`, which is not 0, decides between
     equal gains. Weights are compared, added and subtracted with each other and with ints, which
-    stand for a tie of 0. A sum is exact, and an int where its tie is 0."""
+    stand for a tie of 0. A sum is exact, and an int if its tie is 0."""
 
     gain: int
     tie: int

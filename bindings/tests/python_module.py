@@ -474,7 +474,7 @@ class Waiting(unittest.TestCase):
         with unittest.mock.patch("_thread.start_new_thread", side_effect=RuntimeError) as start:
             matbench.intersect(people)
             self.assertEqual(start.call_count, 0)
-            # Where no thread can be started, a call without a limit is made without one.
+            # If no thread can be started, a call without a limit is made without one.
             self.assertIn("accepted", matbench.sample("pair", 2, 1))
             self.assertEqual(start.call_count, 1)
             with self.assertRaises(RuntimeError):

@@ -3,13 +3,13 @@
 /** Bytes in which each text about a description has room. */
 export const ROOM: number;
 
-/** Thrown where the memory that a call begins with cannot be had. */
+/** Thrown if the memory that a call begins with cannot be had. */
 export class NoMemory extends Error {}
 
 /** Whether the engine has the 64-bit memory that the program needs. */
 export function hasWideMemory(): boolean;
 
-/** The compiled module, for `call`, of the bytes of matbench.wasm or of its address. Fails where the engine has no 64-bit memory. */
+/** The compiled module, for `call`, of the bytes of matbench.wasm or of its address. Fails if the engine has no 64-bit memory. */
 export function load(source: ArrayBuffer | ArrayBufferView | URL | string): Promise<WebAssembly.Module>;
 
 /** How a call ended. */

@@ -21,8 +21,8 @@ export function hasWideMemory() {
 }
 
 /**
- * The compiled module, for `call`, of the bytes of matbench.wasm or of its address. It can be sent to workers. Fails where the engine has no 64-bit
- * memory, or where there is nothing at the address.
+ * The compiled module, for `call`, of the bytes of matbench.wasm or of its address. It can be sent to workers. Fails if the engine has no 64-bit
+ * memory, or if nothing is at the address.
  */
 export async function load(source) {
   if (!hasWideMemory()) throw new Error("this engine has no WebAssembly memory with 64-bit addresses (memory64), which the program needs");
