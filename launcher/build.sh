@@ -19,9 +19,9 @@ lines_of_program() {
 
 # Ends if a command that a build needs is not there, or the program cannot be put in its place. A word says why there is a build.
 end_if_lacking() {
-    for needed in rt setsid flock; do
+    for needed in rt setsid flock python3; do
         command -v "$needed" >/dev/null 2>&1 && continue
-        say "$1; building it needs $needed, which is not on the search path: see README.md, Install"
+        say "$1; building it needs $needed, which is not on the search path: see README.md, To prove it here"
         exit 70
     done
     is_place_writable && return
@@ -52,7 +52,7 @@ guard() {
 # Makes a folder for the build, with a guard that outlives this launcher.
 make_room() {
     base=$(cd "${TMPDIR:-/var/tmp}" >/dev/null 2>&1 && pwd -P) || base=/tmp
-    room=$(mktemp -d "$base/matbench-XXXXXX") && touch "$room/begun" "$room/log" "$room/times" && mkdir "$room/tmp" && mkfifo "$room/alive" || exit 70
+    room=$(mktemp -d "$base/matbench-XXXXXX") && touch "$room/log" "$room/times" && mkdir "$room/tmp" && mkfifo "$room/alive" || exit 70
     exec 8<>"$room/alive"
     exec 7<"$room/alive"
     guard &
@@ -210,6 +210,13 @@ end_as_changed() {
     exit 70
 }
 
+# Ends if a source cannot be read, or is no file.
+end_as_unreadable() {
+    say "a source cannot be read, or is neither a file nor a folder"
+    leave
+    exit 70
+}
+
 # Ends by a signal's number.
 break_off() {
     say "the build was interrupted"
@@ -217,19 +224,18 @@ break_off() {
     exit $((128 + $1))
 }
 
-# Whether a source has changed since the build began. If only times have, the time of now takes the place of the beginning.
+# Whether a source has changed since the build began. If only marks have, those of now take the place of the first ones.
 has_changed() {
-    [ -n "$(newer_than "$room/begun")" ] || return 1
-    touch "$room/now"
+    now=$(mark_of_sources) || return 0
+    [ "$now" != "$seen" ] || return 1
     [ "$(sum_of_sources)" = "$sources" ] || return 0
-    touch -r "$room/now" "$room/begun"
+    seen=$now
     return 1
 }
 
-# Puts the program in its place, or ends. It gets the time at which the build began: what is changed later is newer.
+# Puts the program in its place, or ends.
 put_program() {
-    cp "$room/top/crates/mat_main/out/mat_main" "$program.new" && touch -r "$room/begun" "$program.new" &&
-        rm -f "$origin" && mv -f "$program.new" "$program" && note_origin "$sources" proof && return
+    cp "$room/top/crates/mat_main/out/mat_main" "$program.new" && rm -f "$origin" && mv -f "$program.new" "$program" && note_origin "$sources" proof "$seen" && return
     say "the program was built, but could not be copied to $program"
     leave
     exit 70
@@ -242,9 +248,9 @@ build() {
     trap 'break_off 1' HUP
     trap 'break_off 2' INT
     trap 'break_off 15' TERM
-    sources=$(sum_of_sources)
+    if ! { seen=$(mark_of_sources) && sources=$(sum_of_sources); }; then end_as_unreadable; fi
     copy_sources || fail
-    [ -z "$(newer_than "$room/begun")" ] || end_as_changed
+    [ "$(mark_of_sources)" = "$seen" ] || end_as_changed
     tell_plan
     start_tool
     while [ ! -e "$room/status" ]; do

@@ -2,11 +2,11 @@
 # made of. The variable `top` names the checkout.
 # shellcheck shell=sh disable=SC2034,SC2154
 
-# The program's place, and beside it a note of what is there: the checksum of the sources, that of the program, and whether it came by a
-# `proof` or from the `release`.
+# The program's place, and beside it a note of what is there: the checksum of the sources, that of the program, how it came (by a `proof`, from
+# the `release`, or by the kit's own `tool`), and by which marks of the sources and of the program it is known to be the same later.
 program=$top/crates/mat_main/out/mat_main
 origin=$program.origin
-# The released program, packed, and what it is made of: the checksums of its sources and of the program.
+# The released program, packed, and what it is made of: the checksums of its sources and of the program, and the kit that proved it.
 packed=$top/release/matbench-x86_64-linux.gz
 contents=$top/release/CONTENTS
 
@@ -26,27 +26,51 @@ clear_line() {
     if is_terminal; then printf '\r\033[K' >&2; fi
 }
 
-# Lists the sources, and the folders in which they are, by their paths from the top, each ended by a zero byte. Further words are tests of find.
-list_sources() {
-    (cd "$top" && LC_ALL=C find crates/*/src crates/*/specs crates/*/proofs crates.txt HANDLES "$@" -print0 2>/dev/null)
-}
-
 # Prints the checksum of standard input.
 sum() {
     sha256sum | cut -d ' ' -f 1
 }
 
-# Prints the checksum of the sources: of the path and the bytes of each.
-sum_of_sources() {
-    list_sources ! -type d | LC_ALL=C sort -z | (cd "$top" && xargs -0 sha256sum 2>/dev/null) | sum
+# Lists the sources, by their paths from the top, one a line. A link stands for what it leads to. Fails if one of the places is not there, or
+# cannot be read. Further words are tests of find.
+list_sources() {
+    (cd "$top" && LC_ALL=C find -L crates/*/src crates/*/specs crates/*/proofs crates.txt HANDLES ! -type d "$@" -print 2>/dev/null)
 }
 
-# The first source that was changed after a file's time, if one was: a file, or a folder in which one was made or removed. The system's own
-# time of a change counts too, if find knows it: a source that is replaced by one with an older time has a new one.
-newer_than() {
+# Runs a command with the lines of standard input as its last words: by_lines COMMAND WORD ..
+by_lines() {
+    LC_ALL=C sort | tr '\n' '\0' | (cd "$top" && TZ=UTC0 LC_ALL=C xargs -0 "$@" 2>/dev/null)
+}
+
+# Prints the checksum of the sources: of the path and the bytes of each. Fails if one is no file, or cannot be read.
+sum_of_sources() {
+    names=$(list_sources) && others=$(list_sources ! -type f) && [ -z "$others" ] || return 1
+    sums=$(printf '%s\n' "$names" | by_lines sha256sum) || return 1
+    printf '%s\n' "$sums" | sum
+}
+
+# The mark of the lines of standard input, as paths from the top: a checksum of their sizes, times and numbers in the file system. What was
+# changed, moved, made or removed has another mark.
+mark() {
+    marks=$(by_lines stat -L -c '%n %s %y %z %i') || return 1
+    printf '%s\n' "$marks" | sum
+}
+
+mark_of_sources() {
+    names=$(list_sources) || return 1
+    printf '%s\n' "$names" | mark
+}
+
+mark_of_program() {
+    printf '%s\n' "$program" | mark
+}
+
+# Whether no source was changed after the program's own time, by all times that find knows. Sources that were moved here are not noticed.
+is_newest() {
     changed=-cnewer
-    find "$1" -prune -cnewer "$1" >/dev/null 2>&1 || changed=-newer
-    list_sources '(' -newer "$1" -o "$changed" "$1" ')' | tr '\0' '\n' | head -n 1
+    find "$program" -prune -cnewer "$program" >/dev/null 2>&1 || changed=-newer
+    newer=$(cd "$top" && find -L crates/*/src crates/*/specs crates/*/proofs crates.txt HANDLES '(' -newer "$program" -o "$changed" "$program" ')' -print 2>/dev/null) &&
+        [ -z "$newer" ]
 }
 
 # Prints what follows a word in a file of lines, or nothing.
@@ -59,25 +83,25 @@ is_place_writable() {
     mkdir -p "$(dirname "$program")" 2>/dev/null && [ -w "$(dirname "$program")" ]
 }
 
-# Writes the note of what is in the program's place: note_origin SOURCES KIND. Without a note times alone tell whether a source has changed.
+# Writes the note of what is in the program's place: note_origin SOURCES KIND MARK, with the mark that the sources had before their checksum was
+# made. What cannot be noted is compared anew by each command.
 note_origin() {
-    { printf 'sources %s\nprogram %s\nby %s\n' "$1" "$(sum <"$program")" "$2" >"$origin.new" && mv -f "$origin.new" "$origin"; } 2>/dev/null ||
-        rm -f "$origin.new" "$origin" 2>/dev/null
+    { printf 'sources %s\nprogram %s\nby %s\nmarks %s %s\n' "$1" "$(sum <"$program")" "$2" "$3" "$(mark_of_program)" >"$origin.$$" &&
+        mv -f "$origin.$$" "$origin"; } 2>/dev/null || rm -f "$origin.$$" 2>/dev/null
+    return 0
 }
 
-# Whether the program in its place is the one of the note, and the sources are those of the note.
-is_as_noted() {
-    [ -r "$origin" ] && [ "$(entry program "$origin")" = "$(sum <"$program")" ] && [ "$(entry sources "$origin")" = "$(sum_of_sources)" ]
-}
-
-# Whether the program is made of the sources as they are now: none was changed after its time, or it is noted so, and gets the time of now then.
+# Whether the program is made of the sources as they are now: by the marks of the note; else by the checksums of the note, if it is one of this
+# program; else, for a program of the kit's own tool, by times.
 is_current() {
-    [ -x "$program" ] || return 1
-    [ -n "$(newer_than "$program")" ] || return 0
-    touch "$program.time" 2>/dev/null
-    is_as_noted
-    confirmed=$?
-    [ "$confirmed" -ne 0 ] || touch -r "$program.time" "$program" 2>/dev/null
-    rm -f "$program.time" 2>/dev/null
-    return "$confirmed"
+    [ -x "$program" ] && seen=$(mark_of_sources) && placed=$(mark_of_program) || return 1
+    [ "$seen $placed" != "$(entry marks "$origin")" ] || return 0
+    here=$(sum_of_sources) || return 1
+    if [ "$(entry program "$origin")" = "$(sum <"$program")" ]; then
+        [ "$(entry sources "$origin")" = "$here" ] || return 1
+        note_origin "$here" "$(entry by "$origin")" "$seen"
+    else
+        is_newest || return 1
+        note_origin "$here" tool "$seen"
+    fi
 }

@@ -26,9 +26,15 @@ check_files() {
     [ "$(list_release | while read -r file; do cat "$top/release/$file"; done | wc -c)" -le 2000000 ] || wrong "it has more than 2,000,000 bytes"
 }
 
-# Whether the program in its place is one that was proved here: not one that ./matbench unpacked.
+# Whether the program in its place is one that was proved here: by ./matbench or ./prove, which note it, or by the kit's tool, which leaves the
+# object file that it was linked of.
 is_proved_here() {
-    [ -x "$program" ] && { [ "$(entry by "$origin")" != release ] || [ "$(entry program "$origin")" != "$(sum <"$program")" ]; }
+    [ -x "$program" ] || return 1
+    if [ "$(entry program "$origin")" = "$(sum <"$program")" ]; then
+        [ "$(entry by "$origin")" = proof ] || { [ "$(entry by "$origin")" = tool ] && [ -e "$program.o" ]; }
+    else
+        [ -e "$program.o" ]
+    fi
 }
 
 # The program, if it is made of these sources.
@@ -36,16 +42,24 @@ check_program() {
     if [ "$(entry sources "$contents")" != "$(sum_of_sources)" ]; then
         state="behind its sources: ./matbench proves and builds the program until release/make.sh has made it again"
     elif ! is_proved_here; then
-        wrong "no program was proved here that it could be compared with"
+        wrong "nothing was proved here that the program could be compared with: ./prove does so"
     elif ! gzip -tq "$packed" || ! gzip -dc "$packed" | cmp -s - "$program"; then
         wrong "the program is not the one that was proved here, though it is made of the same sources"
     elif [ "$(entry program "$contents")" != "$(sum <"$program")" ]; then
         wrong "CONTENTS has another checksum of the program"
-    elif [ "$(entry others "$contents")" != "$(sum_of_others)" ]; then
-        state="of this program, which is the one that was proved here, byte for byte; the page, the wheel or the archive are behind their sources"
     else
-        state="of these sources, and the program is the one that was proved here, byte for byte"
+        check_others
         check_names
+    fi
+}
+
+# What the page, the wheel and the archive are made of besides the program. Only git knows which files these are.
+check_others() {
+    state="of these sources, and the program is the one that was proved here, byte for byte"
+    if ! others=$(sum_of_others); then
+        state="$state; whether the page, the wheel and the archive are behind their sources cannot be told without git"
+    elif [ "$(entry others "$contents")" != "$others" ]; then
+        state="$state; the page, the wheel or the archive are behind their sources"
     fi
 }
 

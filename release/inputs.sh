@@ -9,9 +9,11 @@ list_inputs() {
     git -C "$top" "$@" crates crates.txt HANDLES launcher/sources.sh release/make.sh release/inputs.sh bindings examples docs/FORMATS.md docs/COOKBOOK.md ':!bindings/tests' ':!crates/*/must-fail'
 }
 
-# Prints the checksum of what the page, the wheel and the archive are made of besides the program.
+# Prints the checksum of what the page, the wheel and the archive are made of besides the program. Fails without git.
 sum_of_others() {
-    (cd "$top" && git ls-files -z -- bindings examples docs/FORMATS.md docs/COOKBOOK.md ':!bindings/tests' | LC_ALL=C sort -z | xargs -0 sha256sum 2>/dev/null) | sum
+    names=$(git -C "$top" -c core.quotePath=false ls-files -- bindings examples docs/FORMATS.md docs/COOKBOOK.md ':!bindings/tests' 2>/dev/null) && [ -n "$names" ] || return 1
+    sums=$(printf '%s\n' "$names" | by_lines sha256sum) || return 1
+    printf '%s\n' "$sums" | sum
 }
 
 # The files of the release, by their names, one a line.

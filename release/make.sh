@@ -51,7 +51,7 @@ collect() {
     mkdir "$made"
     gzip -9nc "$program" >"$made/$(basename "$packed")"
     cp "$top/bindings/out/matbench.html" "$top/bindings/out/matbench-$version-"*.whl "$top/bindings/out/matbench-c-$version-"*.tar.xz "$made/"
-    printf 'sources %s\nprogram %s\nothers %s\n' "$(sum_of_sources)" "$(sum <"$program")" "$(sum_of_others)" >"$made/CONTENTS"
+    printf 'sources %s\nprogram %s\nothers %s\nkit %s\n' "$(sum_of_sources)" "$(sum <"$program")" "$(sum_of_others)" "$(rt version)" >"$made/CONTENTS"
     tell_provenance >"$made/PROVENANCE.md"
     (cd "$made" && LC_ALL=C sha256sum -- * >"$work/sums" && mv "$work/sums" SHA256SUMS)
 }
@@ -76,7 +76,7 @@ matbench $version for Linux on x86-64, made by \`release/make.sh\` and by nothin
 |---|---|---|
 $(cd "$made" && for file in *.gz *.html *.whl *.xz; do echo "| \`$file\` | $(wc -c <"$file") | $(what_is "$file") |"; done)
 
-\`CONTENTS\` has the checksum of the sources, that of the program, and that of what the page, the wheel and the archive are made of besides.
+\`CONTENTS\` has the checksum of the sources, that of the program, that of what the page, the wheel and the archive are made of besides, and the kit.
 \`SHA256SUMS\` has those of all files of this folder: \`sha256sum -c SHA256SUMS\`.
 
 ## To replace the trust by a proof
@@ -117,8 +117,8 @@ compare() {
 
 # Puts the files into release/, in the place of those of an earlier one.
 put() {
-    list_release | while read -r file; do rm -f "$top/release/$file"; done
     cp "$made"/* "$top/release/"
+    list_release | while read -r file; do [ -e "$made/$file" ] || rm -f "$top/release/$file"; done
     echo "make.sh: release/ is made: $(cat "$made"/* | wc -c) bytes; the gate: $said"
 }
 

@@ -210,7 +210,7 @@ try_without_tool() {
     run_without_tool --help
     tell "the help without a program" "$status $(cat "$work/out")" "0 The help."
     run_without_tool --version
-    tell "no tool on the path" "$status $(cat "$work/out" "$work/err")" "70 matbench: no program is there that is made of these sources; building it needs rt, which is not on the search path: see README.md, Install"
+    tell "no tool on the path" "$status $(cat "$work/out" "$work/err")" "70 matbench: no program is there that is made of these sources (git status crates crates.txt HANDLES shows what was changed); building it needs rt, which is not on the search path: see README.md, To prove it here"
 }
 
 try_lacking() {
@@ -218,10 +218,10 @@ try_lacking() {
     mkdir -p "$work/few" && ln -sf /usr/bin/* "$work/few/" && rm "$work/few/flock"
     # shellcheck disable=SC2086
     seen=$(PATH=$work/kit/bin:$work/few $shell "$work/checkout/matbench" --version 2>&1 </dev/null)
-    tell "no flock on the path" "$? $seen" "70 matbench: no program is there that is made of these sources; building it needs flock, which is not on the search path: see README.md, Install"
+    tell "no flock on the path" "$? $seen" "70 matbench: no program is there that is made of these sources (git status crates crates.txt HANDLES shows what was changed); building it needs flock, which is not on the search path: see README.md, To prove it here"
     touch "$work/checkout/crates/mat_main/out"
     run --version
-    tell "out/ cannot be written" "$status $(cat "$work/err")" "70 matbench: no program is there that is made of these sources; it cannot be built, since $work/checkout/crates/mat_main/out cannot be written to"
+    tell "out/ cannot be written" "$status $(cat "$work/err")" "70 matbench: no program is there that is made of these sources (git status crates crates.txt HANDLES shows what was changed); it cannot be built, since $work/checkout/crates/mat_main/out cannot be written to"
     rm "$work/checkout/crates/mat_main/out"
     STAND_IN_DOC=$work/nowhere/kit/START-HERE.md
     export STAND_IN_DOC
@@ -339,10 +339,8 @@ try_change() {
     pause=0.5 start 1 intersect file
     launcher=$!
     wait_for "$work/err1" "of 6 crates proved"
-    touch "$work/mark"
     wait "$launcher"
     tell "a source changed after it: built again" "$? $(grep -c 'the program is built' "$work/err1")" "3 1"
-    tell "the program has the time at which the build began" "$(find "$work/checkout/crates/mat_main/out/mat_main" -newer "$work/mark" | wc -l)" 0
     echo "# Less." >>"$work/checkout/crates.txt"
     pause=0.5 start 1 intersect file
     launcher=$!
@@ -389,6 +387,38 @@ try_release() {
     tell "the help of the program that is built" "$status $(cat "$work/out")" "3 an answer to --help"
 }
 
+# Changes the checkout by a command, and tells whether the released program, which is in its place, still answers: it may not.
+try_other_sources() {
+    made=$1
+    make_checkout
+    ln -s lib.rt crates/mat_words/src/link.rt
+    cp -R crates/mat_laws "$work/laws"
+    echo "// Other." >>"$work/laws/src/lib.rt"
+    make_release "a released answer"
+    run_without_tool intersect file
+    sh -c "$made"
+    run_without_tool intersect file
+    tell "other sources: $made" "$status $(cat "$work/out")" "70 "
+    rm -rf "$work/laws"
+}
+
+try_sources() {
+    try_other_sources "rm -r crates/mat_laws"
+    try_other_sources "rm -r crates/mat_laws/src"
+    try_other_sources "rm HANDLES"
+    try_other_sources "rm crates.txt"
+    try_other_sources "mv crates/mat_laws crates/mat_rules"
+    try_other_sources "mv crates/mat_laws x && mv crates/mat_top crates/mat_laws && mv x crates/mat_top"
+    try_other_sources "rm -r crates/mat_laws && mv ../laws crates/mat_laws"
+    try_other_sources "mv ../laws crates/mat_more"
+    try_other_sources "rm crates/mat_laws/src/lib.rt && ln -s /etc/hostname crates/mat_laws/src/lib.rt"
+    try_other_sources "rm crates/mat_words/src/link.rt && ln -s none crates/mat_words/src/link.rt"
+    try_other_sources "ln -s /etc crates/mat_words/src/more"
+    try_other_sources "mkfifo crates/mat_words/src/more.rt"
+    try_other_sources "touch -d tomorrow crates/mat_main/out/mat_main && echo // >>crates/mat_words/src/lib.rt"
+    try_other_sources "echo // >>crates/mat_words/src/link.rt && touch crates/mat_main/out/mat_main"
+}
+
 # Tries a checkout whose release cannot be used: it builds, and says why where the release is at fault.
 try_release_at_fault() {
     make_checkout
@@ -396,7 +426,7 @@ try_release_at_fault() {
     head -c 60 release/matbench-x86_64-linux.gz >"$work/cut" && cp "$work/cut" release/matbench-x86_64-linux.gz
     run intersect file
     tell "a release that is cut off: it builds" "$status $(cat "$work/out")" "3 $answer"
-    tell "it says so" "$(grep -c 'the released program is damaged .*; it is proved and built here' "$work/err")" 1
+    tell "it says so" "$(grep -c 'the released program is damaged, or .*; it is proved and built here' "$work/err")" 1
     make_checkout
     make_release "a released answer"
     make_program "a changed answer" | gzip -nc >release/matbench-x86_64-linux.gz
@@ -417,7 +447,7 @@ try_release_at_fault() {
     printf '#!/bin/sh\nexit 1\n' >"$work/released" && gzip -nc "$work/released" >release/matbench-x86_64-linux.gz
     sed -i "s/^program .*/program $(sha256sum <"$work/released" | cut -c 1-64)/" release/CONTENTS
     run_without_tool intersect file
-    tell "a release that does not run here, and no tool" "$status $(cat "$work/err")" "70 matbench: the released program does not run here: it needs Linux on x86-64 with glibc 2.34 or later; building it needs rt, which is not on the search path: see README.md, Install"
+    tell "a release that does not run here, and no tool" "$status $(cat "$work/err")" "70 matbench: the released program does not run in $work/checkout/crates/mat_main/out: it needs Linux on x86-64 with glibc 2.34 or later, and a folder whose programs may run; building it needs rt, which is not on the search path: see README.md, To prove it here"
     run_without_tool --help
     tell "the help without a program" "$status $(cat "$work/out")" "0 The help."
 }
@@ -442,7 +472,7 @@ try_release_unreadable() {
     rm -r crates/mat_main/out
     echo "// More." >>crates/mat_laws/src/lib.rt
     run intersect file
-    tell "and with other sources" "$status $(cat "$work/err")" "70 matbench: no program is there that is made of these sources; it cannot be built, since $work/checkout/crates/mat_main/out cannot be written to"
+    tell "and with other sources" "$status $(cat "$work/err")" "70 matbench: no program is there that is made of these sources (git status crates crates.txt HANDLES shows what was changed); it cannot be built, since $work/checkout/crates/mat_main/out cannot be written to"
     sed -i '/More/d' crates/mat_laws/src/lib.rt
     mkdir -m 777 crates/mat_main/out
     chmod 000 release/matbench-x86_64-linux.gz
@@ -482,7 +512,7 @@ try_prove() {
     tell "proved, and the released program: status and no output" "$status $(cat "$work/out")" "0 "
     tell "what it says last" "$(tail -n 2 "$work/err" | tr '\n' '/')" "matbench: the program is built/matbench: it is the released program, byte for byte: what release/ has is proved here/"
     tell "its crates" "$(proved)" "mat_laws mat_main mat_sets mat_top mat_words mat_work "
-    tell "the program in its place is noted as proved" "$(tail -n 1 crates/mat_main/out/mat_main.origin)" "by proof"
+    tell "the program in its place is noted as proved" "$(grep ^by crates/mat_main/out/mat_main.origin)" "by proof"
     printf x >>release/matbench-x86_64-linux.gz
     script=prove run
     tell "a byte more in the release" "$status $(tail -n 1 "$work/err")" "1 matbench: it is NOT the released program, though release/ says that this is made of the same sources"
@@ -504,7 +534,7 @@ try_prove() {
     script=prove run --help
     tell "words" "$status $(grep -c '0: it is; 1: it is proved' "$work/err")" "2 1"
     script=prove run_without_tool
-    tell "no tool on the path" "$status $(cat "$work/err")" "70 matbench: the program is to be proved here; building it needs rt, which is not on the search path: see README.md, Install"
+    tell "no tool on the path" "$status $(cat "$work/err")" "70 matbench: nothing is proved; building it needs rt, which is not on the search path: see README.md, To prove it here"
 }
 
 # Runs a launcher on a terminal, and keeps what it writes there. What comes on standard input is typed.
@@ -541,6 +571,7 @@ try_shell() {
     try_change
     try_terminal
     try_release
+    try_sources
     try_release_at_fault
     try_release_unreadable
     try_release_at_once
