@@ -56,7 +56,7 @@ def try_picture(browser):
 def commands_of(section):
     """The commands of the tables and of the blocks of a section, each with its output or None."""
     for row in re.findall(r"^\|.*\|$", section, re.M):
-        for command in re.findall(r"`((?:\./|python3 |plans/bin/)[^`]*)`", row):
+        for command in re.findall(r"`((?:\./|python3 |~/plans/bin/)[^`]*)`", row):
             yield command, None
     for mark, block in re.findall(r"^```(\w+)\n(.*?)^```$", section, re.M | re.S):
         if mark == "sh":
