@@ -26,14 +26,18 @@ check_files() {
     [ "$(list_release | while read -r file; do cat "$top/release/$file"; done | wc -c)" -le 2000000 ] || wrong "it has more than 2,000,000 bytes"
 }
 
-# Whether the program in its place is one that was proved here: by ./matbench or ./prove, which note it, or by the kit's tool, which leaves the
-# object file that it was linked of.
+# Whether the kit's tool made a program in this folder: it leaves the object file, or what its other compiler made.
+is_by_tool() {
+    [ -e "$program.o" ] || [ -e "$program.by-rattle" ]
+}
+
+# Whether the program in its place is one that was proved here, by ./matbench or ./prove, which note it, or by the kit's tool.
 is_proved_here() {
     [ -x "$program" ] || return 1
     if [ "$(entry program "$origin")" = "$(sum <"$program")" ]; then
-        [ "$(entry by "$origin")" = proof ] || { [ "$(entry by "$origin")" = tool ] && [ -e "$program.o" ]; }
+        [ "$(entry by "$origin")" = proof ] || { [ "$(entry by "$origin")" = tool ] && is_by_tool; }
     else
-        [ -e "$program.o" ]
+        is_by_tool
     fi
 }
 

@@ -181,6 +181,7 @@ SHOWN = """[[...document.querySelectorAll(".told p")].map((it) => it.textContent
 def compare_examples(compared, browser, way, answers):
     """Chooses each example of the page that lies open, and solves and checks it by its buttons. It is told and drawn after both."""
     way = f"{way} in {browser.name}"
+    browser.wait("document.querySelector('#command').value")
     examples = browser.run("[...document.querySelectorAll('#example option')].map((it) => [it.value, it.textContent]).filter((it) => it[0])")
     compared.hold(way, "how many examples there are", len(answers), len(examples))
     for value, title in examples:
