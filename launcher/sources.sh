@@ -39,7 +39,7 @@ list_sources() {
 
 # Runs a command with the lines of standard input as its last words: by_lines COMMAND WORD ..
 by_lines() {
-    LC_ALL=C sort | tr '\n' '\0' | (cd "$top" && TZ=UTC0 LC_ALL=C xargs -0 "$@" 2>/dev/null)
+    LC_ALL=C sort | tr '\n' '\0' | (cd "$top" && xargs -0 "$@" 2>/dev/null)
 }
 
 # Prints the checksum of the sources: of the path and the bytes of each. Fails if one is no file, or cannot be read.
@@ -49,20 +49,20 @@ sum_of_sources() {
     printf '%s\n' "$sums" | sum
 }
 
-# The mark of the lines of standard input, as paths from the top: a checksum of their sizes, times and numbers in the file system. What was
-# changed, moved, made or removed has another mark.
+# Prints the mark of the files in these places: a checksum of their paths, sizes, times and numbers in the file system. What was changed, moved,
+# made or removed has another mark. Fails if one cannot be reached. A find that cannot print these asks stat.
 mark() {
-    marks=$(by_lines stat -L -c '%n %s %y %z %i') || return 1
+    marks=$(LC_ALL=C find -L "$@" ! -type d -printf '%p %s %T@ %C@ %i\n' 2>/dev/null) ||
+        marks=$(TZ=UTC0 LC_ALL=C find -L "$@" ! -type d -exec stat -L -c '%n %s %y %z %i' '{}' + 2>/dev/null) || return 1
     printf '%s\n' "$marks" | sum
 }
 
 mark_of_sources() {
-    names=$(list_sources) || return 1
-    printf '%s\n' "$names" | mark
+    (cd "$top" && mark crates/*/src crates/*/specs crates/*/proofs crates.txt HANDLES)
 }
 
 mark_of_program() {
-    printf '%s\n' "$program" | mark
+    mark "$program"
 }
 
 # Whether no source was changed after the program's own time, by all times that find knows. Sources that were moved here are not noticed.
