@@ -180,7 +180,7 @@ build_shared_library() {
     rm -f "$out/libmatbench.so" "$out/libmatbench.so.1"
     "$work/ld.lld" -shared -soname libmatbench.so.1 --strip-all --gc-sections --build-id=none -z defs -z noexecstack -z relro -z now \
         -o "$out/libmatbench.so.1" "$work/matbench.o" "$kit/toolchain/lib/libgcc.a" "$work"/stubs/*
-    ln -s libmatbench.so.1 "$out/libmatbench.so"
+    cp "$out/libmatbench.so.1" "$out/libmatbench.so"
     hold_to_glibc 2.5
 }
 
