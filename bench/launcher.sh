@@ -1,6 +1,7 @@
 #!/bin/sh
-# Times how long ./matbench takes from a fresh clone to the answer to --version: at the revision BEFORE, if it is set; at HEAD by the
-# launcher of the revision LAUNCHER, if it is set; and then at HEAD.
+# Times how long it takes from a fresh clone to the program that is proved there, by ./prove, or by ./matbench in revisions that have no ./prove:
+# at the revision BEFORE, if it is set; at HEAD by the launcher of the revision LAUNCHER, if it is set, which has to be one without ./prove; and
+# then at HEAD.
 #
 #     [BEFORE=REVISION] [LAUNCHER=REVISION] [CPUS=0,1] bench/launcher.sh
 #
@@ -38,20 +39,30 @@ processor_seconds() {
     awk 'NR == 2 { split($1 "m" $2, it, /[ms]+/); print int(60 * (it[1] + it[3]) + it[2] + it[4] + 0.5) }'
 }
 
-# Builds one revision from nothing, by the launcher of another where one is given, and prints its time.
+# Proves and builds the program of a checkout. ./prove ends with 1 if it is not the released one.
+build() {
+    if [ -e "$1/prove" ]; then
+        # shellcheck disable=SC2086
+        ${CPUS:+taskset -c $CPUS} "$1/prove" || [ "$?" -eq 1 ]
+    else
+        # shellcheck disable=SC2086
+        ${CPUS:+taskset -c $CPUS} "$1/matbench" --version
+    fi
+}
+
+# Builds one revision from nothing, by the launcher of another if one is given, and prints its time.
 time_of() {
     place=$work/$2
     mkdir -p "$place/home" "$place/tmp"
     make_kit "$place/kit/rattle"
     git clone -q "$top" "$place/checkout"
     git -C "$place/checkout" checkout -q --detach "$1"
-    [ -z "${3:-}" ] || git -C "$top" show "$3:matbench" >"$place/checkout/matbench"
+    [ -z "${3:-}" ] || { git -C "$top" show "$3:matbench" >"$place/checkout/matbench" && rm -f "$place/checkout/prove"; }
     echo "$2: $(git -C "$place/checkout" log -1 --format='%h %s')${3:+, by the launcher of $3}, load before $(cut -d ' ' -f 1-3 /proc/loadavg)"
     begun=$(date +%s)
     (
-        # shellcheck disable=SC2086
-        PATH=$place/kit/rattle/bin:$PATH HOME=$place/home TMPDIR=$place/tmp \
-            ${CPUS:+taskset -c $CPUS} "$place/checkout/matbench" --version
+        export PATH="$place/kit/rattle/bin:$PATH" HOME="$place/home" TMPDIR="$place/tmp"
+        build "$place/checkout"
         times >"$place/times"
     )
     echo "$2: $(($(date +%s) - begun)) seconds on the clock, $(processor_seconds <"$place/times") processor seconds, on ${CPUS:+CPUS=$CPUS of }$(nproc) processors"
