@@ -52,7 +52,8 @@ pub fn heaviest_weights<M: Matroid>(
 {
     m.lawful();
     let order = order_by_weight(alloc, m.size(), weights)?;
-    let all = m.run(alloc, &order)?;
+    let taken = m.run(alloc, &order)?;
+    let all = taken.to_bits(alloc)?;
     let mut sum = Weight::ZERO;
     let mut sums = vec![in alloc; sum]?;
     for x in &order {

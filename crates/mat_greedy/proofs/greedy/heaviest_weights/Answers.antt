@@ -34,15 +34,15 @@ loop-x-preserved g c =
     let order = c.deref-x-items.result.now in
     let falling : IsFallingOrder weights order = subst (IsFallingOrder weights) (sym c.deref-x-items.ensures.value) c.in_ok-order.ensures in
     let same : c.deref.result.now ≡ order = c.deref.ensures.value ∙ sym c.deref-x-items.ensures.value in
-    let run = c.in_ok-all.ensures ∙ ap (grown_along (g.M.Matroid.indep c.args.m.now) []) same in
+    let run = c.in_ok-all.ensures.members ∙ c.in_ok-taken.ensures ∙ ap (grown_along (g.M.Matroid.indep c.args.m.now) []) same in
     elim c.if-contains.branch [
       | then-contains+in_ok-push w ↦ rw (w.sum-is, w.sums-is, w.in_ok-push.ensures.items)
           (IsSumming-more c.lawful.ensures weights order c.loop-x.sum c.loop-x.sums.items c.loop-x.x-index _ (sym c.requires.lengths) falling
-          c.loop-x-test.true refl c.loop-x.invariant c.in_ok-all.all run (sym c.contains.ensures.found ∙ w.if-contains.true) _
+          c.loop-x-test.true refl c.loop-x.invariant c.in_ok-all.all run (sym c.contains.ensures ∙ w.if-contains.true) _
           w.add_assign.ensures.after)
       | else-contains w ↦ rw (w.sum-is, w.sums-is)
           (IsSumming-stay c.lawful.ensures weights order c.loop-x.sum c.loop-x.sums.items c.loop-x.x-index _ (sym c.requires.lengths) falling
-          c.loop-x-test.true refl c.loop-x.invariant c.in_ok-all.all run (sym c.contains.ensures.found ∙ w.if-contains.false))
+          c.loop-x-test.true refl c.loop-x.invariant c.in_ok-all.all run (sym c.contains.ensures ∙ w.if-contains.false))
     ]
 
 pub returns : goal.returns
