@@ -172,6 +172,57 @@ fn is_made_of_others(matroid: &AnyMatroid) -> bool {
     )
 }
 
+// Whether x, outside a set, can be added to one of the parts of the set as they stand, and so to the set in the union.
+fn union_takes_at_once(
+    alloc: Global,
+    matroids: &[AnyMatroid],
+    _base: &ElemSet,
+    parts: &SetList,
+    kept: &[AnyKept],
+    x: u32,
+) -> Result<bool, AllocError>
+    requires joined { AreJoined elements_in IsSoundOne matroids.now }
+    requires parts { AreParts (map test_in matroids.now) parts.now }
+    requires together { family_union parts.now ≡ _base.now }
+    requires kept { AreKept KeepsOne matroids.now parts.now kept.now }
+    requires below { x < size_in matroids.now }
+    requires outside { is_member x _base.now ≡ false }
+    ensures { IfOk result (λ added. added ≡ true → (row_of (union_in matroids.now) _base.now x).addable ≡ true) }
+{
+    match part_that_takes(alloc, matroids, parts, kept, x)? {
+        Some(_) => Ok(true),
+        None => Ok(false),
+    }
+}
+
+// Whether an element x outside an independent set can be added without a row or a search that tells it: true only where it can be added.
+fn takes_at_once(
+    alloc: Global,
+    matroid: &AnyMatroid,
+    base: &ElemSet,
+    kept: &AnyKept,
+    x: u32,
+) -> Result<bool, AllocError>
+    requires sound { IsSound (tree_of matroid.now) }
+    requires base { is_independent (tree_of matroid.now) base.now ≡ true }
+    requires kept { KeepsAny (tree_of matroid.now) base.now kept.now }
+    requires below { x < element_count (tree_of matroid.now) }
+    requires outside { is_member x base.now ≡ false }
+    ensures { IfOk result (λ added. added ≡ true → (row_of (is_independent (tree_of matroid.now)) base.now x).addable ≡ true) }
+{
+    match (matroid, kept) {
+        (AnyMatroid::Union { parts: matroids }, AnyKept::Union { parts, kept }) => {
+            union_takes_at_once(alloc, matroids, base, parts, kept, x)
+        }
+        _ => {
+            if is_made_of_others(matroid) {
+                return Ok(false);
+            }
+            adds(alloc, matroid, base, kept, x)
+        }
+    }
+}
+
 /// The members of an independent set that stand in the fundamental circuit of an element x outside it, by what is kept of the set: all of the
 /// circuit but x, none for a loop; None where x can be added. At most one row is made. The only error is want of memory.
 pub(crate) fn circuit_members(
@@ -188,7 +239,7 @@ pub(crate) fn circuit_members(
     requires outside { is_member x base.now ≡ false }
     ensures { IfOk result (λ members. members ≡ circuit_members (row_of (is_independent (tree_of matroid.now)) base.now x)) }
 {
-    if !is_made_of_others(matroid) && adds(alloc, matroid, base, kept, x)? {
+    if takes_at_once(alloc, matroid, base, kept, x)? {
         return Ok(None);
     }
     let exchange = row(alloc, matroid, base, kept, x)?;
