@@ -27,4 +27,6 @@ pub mod ArcFlows
 pub mod RouteFamilies
 pub mod PushedWalks
 pub mod FirstGoals
+pub mod LeadingVertices
+pub mod NextEnds
 pub mod Routes

@@ -78,7 +78,7 @@ module _ (vertices : ℕ) (arcs : List (ℕ × ℕ)) (sources ends : List ℕ) (
   starts_at = eqb-true (get_or walk 0 0) v (only_one (get_or walk 0 0) v w.first)
 
   -- v is no end yet
-  pushed_to_no_end : is_member v ends ≡ false
+  pub pushed_to_no_end : is_member v ends ≡ false
   pushed_to_no_end = false_from_ne_true (is_member v ends) (λ old.
       h.free v (place 0) old (at_place 0 (let long = w.long in omega arith) ∙ ap Some starts_at))
 
@@ -160,7 +160,7 @@ module _ (vertices : ℕ) (arcs : List (ℕ × ℕ)) (sources ends : List ℕ) (
       (source_comes vertices arcs sources before (get_or forward 0 0) forward_walk.first) going
 
   -- so there are paths to v and to all ends
-  pushed_paths : HasPathsToEach arcs sources (with_one ends v)
+  pub pushed_paths : HasPathsToEach arcs sources (with_one ends v)
   pushed_paths = paths_to_ends vertices arcs sources (with_one ends v) now pushed_ends
 
   -- ---- the table of the vertex after each

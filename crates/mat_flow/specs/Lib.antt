@@ -8,3 +8,4 @@ pub mod ArcPaths
 pub mod LineGraphs
 pub mod ArcAnswers
 pub mod Seeking
+pub mod Leading

@@ -1,5 +1,5 @@
 -- What is kept of disjoint paths to tell which of their ends can give way to another vertex (Schrijver, chapters 9 and 16).
-use Rattle.std.specs.Prelude.{◌≡◌, ℕ, true, ◌↔◌, List, Option, Some, None}
+use Rattle.std.specs.Prelude.{◌≡◌, ◌↔◌, ◌<◌, ℕ, true, false, List, Option, Some, None}
 use Rattle.mat_sets.specs.Sets.{is_member, with_one, without_one, AllBelow}
 use Rattle.mat_sets.specs.Graphs.{IsGraph}
 use Rattle.mat_flow.specs.LinkTables.{HasEnds}
@@ -24,3 +24,8 @@ pub record GiveWay (arcs : List (ℕ × ℕ)) (sources ends : List ℕ) (v : ℕ
 abbrev pub TellsWays : (arcs : List (ℕ × ℕ)) (sources ends : List ℕ) (v : ℕ) → Option (List ℕ) → Type 0
 TellsWays arcs sources ends v None = HasPathsToEach arcs sources (with_one ends v)
 TellsWays arcs sources ends v (Some set) = GiveWay arcs sources ends v set
+
+-- of the vertices those that are no ends and to which one path more leads, beside paths to all ends
+abbrev pub AreNextEnds : (vertices : ℕ) (arcs : List (ℕ × ℕ)) (sources ends found : List ℕ) → Type 0
+AreNextEnds vertices arcs sources ends found = (v : ℕ) → v < vertices
+    → (is_member v found ≡ true) ↔ ((is_member v ends ≡ false) × HasPathsToEach arcs sources (with_one ends v))

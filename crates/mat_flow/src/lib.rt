@@ -10,6 +10,7 @@ mod arc_flow;
 mod arc_residual;
 mod digraph;
 pub mod laws;
+mod leading;
 mod link_table;
 mod linker;
 mod linking;
@@ -24,6 +25,7 @@ mod walk;
 
 pub use arc_flow::{ArcAnswer, arc_paths};
 pub use digraph::Digraph;
+pub use leading::leading_vertices;
 pub use link_table::{LinkTable, shift_along};
 pub use linker::Linker;
 pub use linking::{Linking, linked};

@@ -1,9 +1,10 @@
 //! Which ends of disjoint paths can give way to another vertex (Schrijver, chapters 9 and 16).
 ghost use Rattle.std.specs.Prelude.{◌≡◌, ◌↔◌, ℕ, List, [], true, false, Some, IfOk};
 ghost use Rattle.mat_sets.specs.Sets.{is_member, with_one};
-ghost use Rattle.mat_flow.specs.{Digraphs.{IsTurned}, LinkedEnds.{IsLinkedTo}, Paths.{HasPathsToEach}, Reroutes.{AreReroutes, TellsWays}};
+ghost use Rattle.mat_flow.specs.{Digraphs.{IsTurned}, LinkedEnds.{IsLinkedTo}, Paths.{HasPathsToEach}, Reroutes.{AreNextEnds, AreReroutes, TellsWays}};
 
 use crate::digraph::Digraph;
+use crate::leading::leading_vertices;
 use crate::link_table::LinkTable;
 use crate::seeking::SearchRoom;
 use crate::trails::after_table;
@@ -36,31 +37,27 @@ impl Reroutes {
         Ok(LinkTable::of_table(before))
     }
 
-    /// Whether v is no end and disjoint paths lead from the sources to all ends and to v: one search, back from v, in what the
-    /// paths leave, which ends at the first source that it meets; `back` is the graph with its arcs turned round (Schrijver, chapters 9
-    /// and 16). The only error is want of memory.
-    pub fn has_path_to(
+    /// The vertices that are no ends and to which one path more leads: disjoint paths lead from the sources to all ends and to such a
+    /// vertex. They are those from which a walk leads, in what the paths leave, to a vertex with a source after it; `back` is the graph
+    /// with its arcs turned round (Schrijver, chapters 9 and 16). The only error is want of memory.
+    pub fn next_ends(
         &self,
         alloc: Global,
         back: &Digraph,
         sources: &BitSet,
-        v: u32,
-    ) -> Result<bool, AllocError>
+    ) -> Result<BitSet, AllocError>
         requires { (vertices : ℕ) × (arcs : List (ℕ × ℕ)) × (ends : List ℕ) × IsTurned vertices arcs back.now
             × AreReroutes vertices arcs sources.now ends self.now }
         ensures { IfOk result (λ found. (vertices : ℕ) (arcs : List (ℕ × ℕ)) (ends : List ℕ) → IsTurned vertices arcs back.now
-            → AreReroutes vertices arcs sources.now ends self.now
-            → (found ≡ true) ↔ ((is_member v ends ≡ false) × HasPathsToEach arcs sources.now (with_one ends v))) }
+            → AreReroutes vertices arcs sources.now ends self.now → AreNextEnds vertices arcs sources.now ends found) }
     {
-        let mut room = SearchRoom::new(alloc, back.vertices())?;
         let residual = TurnedResidual {
             back,
             sources,
             after: &self.after,
-            v,
+            v: 0,
         };
-        let walk = room.seek(alloc, &residual)?;
-        Ok(walk.is_some())
+        leading_vertices(alloc, &residual, back.vertices())
     }
 
     /// None where disjoint paths lead from the sources to all ends and to v; otherwise a set of vertices, of which the ends are
