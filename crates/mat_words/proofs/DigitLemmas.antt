@@ -1,5 +1,5 @@
 -- Digits read from the left, as far as a bound, and digits written from the right, one at a time.
-use Rattle.std.proofs.Common.{◌≡◌, ℕ, zero, suc, ◌+◌, ◌-◌, ◌*◌, ◌/◌, ◌%◌, ◌^◌, ◌<◌, ◌≤◌}
+use Rattle.std.proofs.Common.{◌≡◌, Bool, true, false, cond, Option, Some, None, ℕ, zero, suc, ◌+◌, ◌-◌, ◌*◌, ◌/◌, ◌%◌, ◌^◌, ◌<◌, ◌≤◌}
 use Rattle.std.proofs.Common.{min, List, [], ◌∷◌, ◌++◌, map, length, get_or, take, drop, set, refl, ap, ◌∙◌}
 use Rattle.std.proofs.Common.{arith}
 use Rattle.std.specs.Int.Digits.{number_from_digits, digits_of}
@@ -37,6 +37,34 @@ pub counted : (cs : List ℕ) (i n : ℕ) → length cs ≤ i → 0 < length cs 
 counted cs i n past some first e =
     let whole : n ≡ min (value_of cs) magnitude_bound = e ∙ ap (λ (t : List ℕ). min (value_of t) magnitude_bound) (take_all i cs past) in
     omega (arith, first_counts cs some first)
+
+-- ---- at most 18 digits
+
+power_up : (i k : ℕ) → 10 ^ i ≤ 10 ^ (i + k)
+power_up i zero = (let e : i + 0 ≡ i = omega arith in rw e (omega arith))
+power_up i (suc k) =
+    let e : i + suc k ≡ suc (i + k) = omega arith in
+    let before = power_up i k in
+    rw e (omega (arith, before))
+
+-- one digit more than at most 17 still fits 64 bits
+pub digit_fits : (n d i : ℕ) → n < 10 ^ i → i < 18 → d < 10 → (n * 10 + d < 10 ^ (i + 1)) × (n * 10 + d < 2 ^ 64)
+digit_fits n d i small few digit =
+    let one : i + 1 ≡ suc i = omega arith in
+    let whole : i + (17 - i) ≡ 17 = omega arith in
+    let most : 10 ^ i ≤ 10 ^ 17 = rw whole at (power_up i (17 - i)) in
+    (rw one (omega (arith, small)), omega (arith, small, most))
+
+pub counted_short : (cs : List ℕ) (i n : ℕ) → length cs ≤ i → 0 < length cs → 49 ≤ get_or cs 0 0 → n ≡ value_of (take i cs) → 0 < n
+counted_short cs i n past some first e =
+    let whole : n ≡ value_of cs = e ∙ ap value_of (take_all i cs past) in
+    omega (arith, first_counts cs some first)
+
+-- a value that fits 64 bits is not cut at the bound
+pub uncut : (b : Bool) (v : ℕ) (o : Option ℕ) → ((n : ℕ) → o ≡ Some n → n < 2 ^ 64) → o ≡ cond b (Some v) None
+    → o ≡ cond b (Some (min v magnitude_bound)) None
+uncut true v o small e = e ∙ ap Some (let l = small v e in omega arith)
+uncut false v o small e = e
 
 -- the digits of `left` are still to be written before the place `at`, and then those of n stand before the tail, which begins at `end`
 pub record IsPartWritten (n left at end : ℕ) (buffer tail : List ℕ) : Type 0 where

@@ -211,3 +211,20 @@ pub weight_range : (low high : ℤ) (o : Option Weight) (r : Result Weight Numbe
     → IfOk r (λ w. IsWeightBetween low high w)
 weight_range low high o (Ok w) e = weight_between_gives low high w (ranged_ok (is_weight_between low high) o w (sym e)).1
 weight_range low high o (Err fault) e = tt
+
+-- a word that a number spells, or one outside the range, is read as the weight without a tie
+pub untied_is : (low high : ℤ) (word : List ℕ) (r : Result Weight NumberFault)
+    → r ≡ ranged (is_weight_between low high) (untied (number_of word)) → r ≢ Err Spelling → r ≡ weight_in low high word
+untied_is low high word r read other = by (number_of word) refl read
+  where
+    by : (o : Option ℤ) → number_of word ≡ o → r ≡ ranged (is_weight_between low high) (untied o) → r ≡ weight_in low high word
+    by None is e = absurd (other e)
+    by (Some z) is e = e ∙ ap (λ (o : Option Weight). ranged (is_weight_between low high) o) (sym (number_is_weight word z is))
+
+pub read_is_no_misspelling : (w : Weight) → Ok w ≢ Err Spelling
+read_is_no_misspelling w h = absurd cc
+
+pub range_is_no_misspelling : (r : Result Weight NumberFault) → r ≡ Err Range → r ≢ Err Spelling
+range_is_no_misspelling (Ok w) e h = absurd cc
+range_is_no_misspelling (Err Range) e h = absurd cc
+range_is_no_misspelling (Err Spelling) e h = absurd cc

@@ -10,6 +10,7 @@ ghost use Rattle.std.specs.Prelude.{
   ◌↔◌,
   ◌^◌,
   ◌++◌,
+  length,
   min,
   Some,
   None,
@@ -70,8 +71,27 @@ fn append_digit(n: u128, digit: u8) -> u128
     }
 }
 
-// What digits stand for, as far as the bound: None where they are not a digit from 1 to 9 followed by any digits.
-fn magnitude(digits: &[u8]) -> Option<u128>
+// What at most 18 digits stand for, put together in 64 bits: None where they are not a digit from 1 to 9 followed by any digits.
+fn short_magnitude(digits: &[u8]) -> Option<u64>
+    requires { length digits.now ≤ 18 }
+    ensures value { result ≡ (if is_counting digits.now then Some (value_of digits.now) else None) }
+    ensures some { IfSome result (λ n. 0 < n) }
+{
+    if digits.is_empty() || digits[0] < b'1' {
+        return None;
+    }
+    let mut n: u64 = 0;
+    for c in digits {
+        if *c < b'0' || *c > b'9' {
+            return None;
+        }
+        n = n * 10 + (*c - b'0') as u64;
+    }
+    Some(n)
+}
+
+// The same for any number of digits, as far as the bound.
+fn long_magnitude(digits: &[u8]) -> Option<u128>
     ensures value { result ≡ (if is_counting digits.now then Some (min (value_of digits.now) magnitude_bound) else None) }
     ensures some { IfSome result (λ n. 0 < n) }
 {
@@ -86,6 +106,20 @@ fn magnitude(digits: &[u8]) -> Option<u128>
         n = append_digit(n, *c - b'0');
     }
     Some(n)
+}
+
+// What digits stand for, as far as the bound: None where they are not a digit from 1 to 9 followed by any digits.
+fn magnitude(digits: &[u8]) -> Option<u128>
+    ensures value { result ≡ (if is_counting digits.now then Some (min (value_of digits.now) magnitude_bound) else None) }
+    ensures some { IfSome result (λ n. 0 < n) }
+{
+    if digits.len() > 18 {
+        return long_magnitude(digits);
+    }
+    match short_magnitude(digits) {
+        Some(n) => Some(n as u128),
+        None => None,
+    }
 }
 
 // The number itself, if it is in the range.

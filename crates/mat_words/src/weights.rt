@@ -50,15 +50,28 @@ fn read_tied(main: &[u8], tie: &[u8], low: i128, high: i128) -> Result<Weight, N
     both(read_number(main, low, high), read_number(tie, low, high))
 }
 
-/// The weight that a word of any length spells, where one is needed of which each number is in `low..=high`. [`NumberFault::Spelling`]
-/// where the word is no weight word, and [`NumberFault::Range`] where it is one with a number outside the range. It takes no memory.
-pub fn read_weight(word: &[u8], low: i128, high: i128) -> Result<Weight, NumberFault>
+// The weight that a word spells, by its parts before and behind the first `:`.
+fn read_parts(word: &[u8], low: i128, high: i128) -> Result<Weight, NumberFault>
     ensures value { result ≡ weight_in low high word.now }
     ensures range { IfOk result (λ w. IsWeightBetween low high w) }
 {
     match split_at_byte(word, b':') {
         (main, None) => read_untied(main, low, high),
         (main, Some(tie)) => read_tied(main, tie, low, high),
+    }
+}
+
+/// The weight that a word of any length spells, where one is needed of which each number is in `low..=high`. [`NumberFault::Spelling`]
+/// where the word is no weight word, and [`NumberFault::Range`] where it is one with a number outside the range. It takes no memory, and
+/// is fastest where the weight has no tie.
+pub fn read_weight(word: &[u8], low: i128, high: i128) -> Result<Weight, NumberFault>
+    ensures value { result ≡ weight_in low high word.now }
+    ensures range { IfOk result (λ w. IsWeightBetween low high w) }
+{
+    match read_untied(word, low, high) {
+        Ok(weight) => Ok(weight),
+        Err(NumberFault::Range) => Err(NumberFault::Range),
+        Err(NumberFault::Spelling) => read_parts(word, low, high),
     }
 }
 

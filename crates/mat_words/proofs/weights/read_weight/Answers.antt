@@ -1,27 +1,22 @@
-use Rattle.std.proofs.Common.{◌≡◌, ◌∷◌, rules, ap, sym, ◌∙◌, Option}
-use Rattle.std.specs.List.{slice_split}
-use Rattle.mat_sets.specs.declared.weight.Weight.{Weight}
+use Rattle.std.proofs.Common.{◌≡◌, ◌∙◌, Err, Ok, ap, refl, rules, sym}
+use Rattle.mat_words.specs.declared.numbers.NumberFault.TheVariants.{Range}
 use Rattle.mat_words.specs.Numbers.{number_of, ranged}
-use Rattle.mat_words.specs.Words.{is_byte}
-use Rattle.mat_words.specs.Weights.{untied, tied, weight_of_parts, is_weight_between}
-use Rattle.mat_words.proofs.WeightLemmas.{tied_parts, weight_range}
+use Rattle.mat_words.specs.Weights.{is_weight_between, untied}
+use Rattle.mat_words.proofs.WeightLemmas.{range_is_no_misspelling, read_is_no_misspelling, untied_is, weight_range}
 use Rattle.mat_words.proofs.weights.read_weight.Goals as goal
 
-pub returns-in_default-None-clause-range : goal.returns-in_default-None-clause-range
-returns-in_default-None-clause-range c =
-    weight_range c.args.low c.args.high (untied (number_of c.split_at_byte.result.0.now)) c.read_untied.result (search rules)
+pub returns-in-Ok-clause-value : goal.returns-in-Ok-clause-value
+returns-in-Ok-clause-value c =
+    let read : c.read_untied.result ≡ ranged (is_weight_between c.args.low c.args.high) (untied (number_of c.args.word.now)) = search rules in
+    untied_is c.args.low c.args.high c.args.word.now (Ok c.in-Ok.weight) (sym c.in-Ok.is ∙ read) (read_is_no_misspelling c.in-Ok.weight)
 
-pub returns-in_default-Some-clause-value : goal.returns-in_default-Some-clause-value
-returns-in_default-Some-clause-value c =
-    let main = c.split_at_byte.result.0.now in
-    let tie = c.in_default-Some.tie.now in
-    let parts : slice_split (is_byte 58) c.args.word.now ≡ main ∷ slice_split (is_byte 58) tie =
-    rw c.in_default-Some.is-1 at c.split_at_byte.ensures.parts in
-    let read : c.read_tied.result ≡ ranged (is_weight_between c.args.low c.args.high) (tied (number_of main) (number_of tie)) = search rules in
-    read ∙ ap (λ (o : Option Weight). ranged (is_weight_between c.args.low c.args.high) o)
-    (sym (tied_parts main tie) ∙ ap weight_of_parts (sym parts))
+pub returns-in-Ok-clause-range : goal.returns-in-Ok-clause-range
+returns-in-Ok-clause-range c =
+    let read : c.read_untied.result ≡ ranged (is_weight_between c.args.low c.args.high) (untied (number_of c.args.word.now)) = search rules in
+    weight_range c.args.low c.args.high (untied (number_of c.args.word.now)) (Ok c.in-Ok.weight) (sym c.in-Ok.is ∙ read)
 
-pub returns-in_default-Some-clause-range : goal.returns-in_default-Some-clause-range
-returns-in_default-Some-clause-range c =
-    weight_range c.args.low c.args.high (tied (number_of c.split_at_byte.result.0.now) (number_of c.in_default-Some.tie.now)) c.read_tied.result
-    (search rules)
+pub returns-in-Err-Range-clause-value : goal.returns-in-Err-Range-clause-value
+returns-in-Err-Range-clause-value c =
+    let read : c.read_untied.result ≡ ranged (is_weight_between c.args.low c.args.high) (untied (number_of c.args.word.now)) = search rules in
+    untied_is c.args.low c.args.high c.args.word.now (Err Range) (sym (c.in-Err-Range.is ∙ ap Err c.in-Err-Range.field-0-is) ∙ read)
+    (range_is_no_misspelling _ refl)

@@ -1,7 +1,7 @@
 use Rattle.std.proofs.Common.{◌≡◌, min, take, true}
 use Rattle.std.specs.List.{list_all}
 use Rattle.mat_words.specs.Numbers.{is_digit, value_of, magnitude_bound}
-use Rattle.mat_words.proofs.numbers.magnitude.Given as goal
+use Rattle.mat_words.proofs.numbers.long_magnitude.Given as goal
 
 abbrev pub invariant-loop-c : goal.invariant-loop-c
 invariant-loop-c l = record {

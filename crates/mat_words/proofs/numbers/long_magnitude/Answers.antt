@@ -1,7 +1,7 @@
 use Rattle.std.proofs.Common.{arith, ◌∙◌}
 use Rattle.std.proofs.lemmas.Grind.{common_steps}
 use Rattle.mat_words.proofs.DigitLemmas.{value_step, counted}
-use Rattle.mat_words.proofs.numbers.magnitude.Goals as goal
+use Rattle.mat_words.proofs.numbers.long_magnitude.Goals as goal
 
 pub loop-c-preserved : goal.loop-c-preserved
 loop-c-preserved c = record {
