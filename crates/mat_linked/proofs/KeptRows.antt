@@ -13,10 +13,12 @@ use Rattle.mat_sets.specs.Rows.{row_at}
 use Rattle.mat_flow.specs.LinkTables.{entry_at, is_there}
 use Rattle.mat_flow.specs.Seeking.{IsFreeWalk}
 use Rattle.mat_flow.proofs.Frontiers.{is_before_gives, is_before-more}
+use Rattle.mat_flow.proofs.LeadingVertices.{AreLeading-same}
 use Rattle.mat_flow.proofs.PathsOfTables.{shifted_table}
 use Rattle.mat_laws.specs.declared.exchange.Exchange.{Exchange}
 use Rattle.mat_laws.specs.Exchanges.{row_of}
 use Rattle.mat_laws.proofs.Rows.{row_outside}
+use Rattle.mat_linked.specs.KeptMatchings.{LeadToFree}
 use Rattle.mat_linked.specs.Matchings.{is_held, is_matched_among, AreIndices, AreMatchable, IsMatching}
 use Rattle.mat_linked.specs.TransversalLaws.{is_transversal-gives, transversal_laws}
 use Rattle.mat_linked.specs.Transversals.{is_transversal, Family}
@@ -37,6 +39,18 @@ IsMatching-any_rows n family rows others X matched below r s t = record {
   covered = t.covered;
   once = t.once;
 }
+
+-- so too the indices from which a walk leads to a free one
+pub LeadToFree-any_rows : (n : ℕ) (family rows others : List (List ℕ)) (X : List ℕ) (matched : List (Option ℕ)) (leading : List ℕ) → AllBelow n X
+    → AreIndices n family rows → AreIndices n family others → IsMatching rows X matched → LeadToFree rows matched leading
+    → LeadToFree others matched leading
+LeadToFree-any_rows n family rows others X matched leading below r s t h =
+    AreLeading-same (length matched) (λ j. is_held rows (entry_at matched j)) (λ j. is_held others (entry_at matched j))
+    (λ j. is_none (entry_at matched j)) leading (λ j k. same k (entry_at matched j) (t.inside j)) h
+  where
+    same : (k : ℕ) (entry : Option ℕ) → ((x : ℕ) → entry ≡ Some x → is_member x X ≡ true) → is_held rows entry k ≡ is_held others entry k
+    same k None m = refl
+    same k (Some x) m = let l = AllBelow-member n X x below (m x refl) in r.members x k l ∙ sym (s.members x k l)
 
 -- the rows that a matroid has are those of its family
 pub indices_of : (made m : Family) (rows : List (List ℕ)) → made ≡ m → AreIndices made.count made.sets rows → AreIndices m.count m.sets rows

@@ -1,18 +1,22 @@
 -- Searches for augmenting walks of a matching, one after the other: where the arcs from an index lead depends on its entry alone, so what was
 -- reached in vain is left alone by later walks, and is never reached again.
 use Rattle.std.proofs.Common.{arith, ◌≡◌, ℕ, ◌<◌, ◌^◌, Bool, true, false, not, ◌&&◌, List, length, is_none, is_some, Option, Some, None, refl, sym, ap, ◌∙◌, subst}
-use Rattle.std.proofs.lemmas.Bool.{and_parts, both_ways, false_from_ne_true}
+use Rattle.std.proofs.lemmas.Bool.{and_from, and_parts, both_ways, false_from_ne_true}
 use Rattle.std.specs.Global.{Vec}
 use Rattle.std.specs.List.{All}
 use Rattle.mat_sets.specs.Sets.{all_below, intersection, is_member, with_one, AllBelow}
 use Rattle.mat_sets.specs.Rows.{row_at}
-use Rattle.mat_sets.proofs.Reach.{reached_set_exists}
+use Rattle.mat_sets.specs.Search.{IsNextFrom}
+use Rattle.mat_sets.proofs.Reach.{reached_set_exists, walk_differs}
 use Rattle.mat_sets.proofs.Truths.{same_truth}
 use Rattle.mat_flow.specs.LinkTables.{entry_at, IsShifted}
 use Rattle.mat_flow.specs.Seeking.{live_in, IsFreeWalk, IsRoom, IsShut, IsSought, IsSpent}
 use Rattle.mat_flow.specs.declared.seeking.SearchRoom.{SearchRoom}
 use Rattle.mat_flow.proofs.FirstGoals.{shut_misses, spent_reaches, IsShut-all, IsShut-moved, IsShut-spent}
 use Rattle.mat_flow.proofs.Frontiers.{is_before_gives}
+use Rattle.mat_flow.proofs.LeadingVertices.{leading_walk, unled_misses}
+use Rattle.mat_flow.proofs.LinkTables.{some_is_one}
+use Rattle.mat_linked.specs.KeptMatchings.{LeadToFree}
 use Rattle.mat_linked.specs.Matchings.{is_held, is_matched_among, AreIndices, AreMatchable, IsMatching}
 use Rattle.mat_linked.specs.TransversalLaws.{is_transversal-gives}
 use Rattle.mat_linked.specs.Transversals.{is_transversal}
@@ -82,8 +86,9 @@ module _ (rows : List (List ℕ)) (old read : List (Option ℕ)) (element : ℕ)
 -- a search from the sets that hold an element is allowed
 pub may_search : (rows : List (List ℕ)) (X : List ℕ) (matched read : List (Option ℕ)) (element : ℕ) → IsMatching rows X matched → read ≡ matched
     → length matched < 2 ^ 32 → element < length rows
-    → (length read < 2 ^ 32) × (element < length rows) × ((j x : ℕ) → entry_at read j ≡ Some x → x < length rows)
-may_search rows X matched read element t same few below = rw same (few, below, element_below rows X matched t)
+    → (length read < 2 ^ 32) × ((x : ℕ) → Some element ≡ Some x → x < length rows) × ((j x : ℕ) → entry_at read j ≡ Some x → x < length rows)
+may_search rows X matched read element t same few below =
+    rw same (few, λ x e. subst (λ y. y < length rows) (some_is_one element x e) below, element_below rows X matched t)
 
 -- the same indices are matched with the same elements
 same_matched : (matched : List (Option ℕ)) (one other : List ℕ) → ((v : ℕ) → is_member v one ≡ is_member v other) → (y : ℕ)
@@ -92,22 +97,45 @@ same_matched matched one other same y = same_truth _ _
     (λ h. let w = is_before_gives matched one y h in matched_among_from matched other w.0 y (sym (same w.0) ∙ w.1) w.2)
     (λ h. let w = is_before_gives matched other y h in matched_among_from matched one w.0 y (same w.0 ∙ w.1) w.2)
 
+-- whether an element can be added, by the indices from which a walk leads to a free one
+module _ (rows : List (List ℕ)) (X : List ℕ) (matched : List (Option ℕ)) (element : ℕ) (t : IsMatching rows X matched)
+    (fresh : is_member element X ≡ false) (below : element < length rows) (family : List (List ℕ)) (size : length family ≡ length matched)
+    (inside : All (AllBelow (length rows)) family) (r : AreIndices (length rows) family rows)
+    (passes : is_transversal (length rows) family X ≡ true) (leading : List ℕ) (h : LeadToFree rows matched leading) where
+  abbrev step : ℕ → ℕ → Bool
+  step j = is_held rows (entry_at matched j)
+
+  abbrev first : ℕ → Bool
+  first j = is_member j (row_at rows element)
+
+  abbrev free_index : ℕ → Bool
+  free_index j = is_none (entry_at matched j)
+
+  pub adds_told : (found : Option ℕ) → IsNextFrom (λ j. first j && is_member j leading) 0 found
+      → is_some found ≡ (row_of (is_transversal (length rows) family) X element).addable
+  adds_told (Some j) f =
+      let p = and_parts (first j) (is_member j leading) f.passes in
+      let q = leading_walk (length matched) step free_index leading h first j p.0 p.1 in
+      ap (λ (e : Exchange). e.addable)
+      (row_added rows X matched element t fresh below family size inside r passes matched refl q.0 q.0 X refl (record {
+        walk = q.1.walk;
+        differ = walk_differs (length matched) step first free_index q.0 q.0 refl q.1;
+        inside = λ v m. m;
+      }))
+  adds_told None f =
+      let reached = reached_set_exists (length matched) step first in
+      sym (row-addable (is_transversal (length rows) family) X element _ fresh refl
+      ∙ false_from_ne_true _ (λ whole. stuck (length matched) rows matched matched element reached.0 refl refl reached.1
+      (unled_misses (length matched) step free_index leading h first reached.0 reached.1
+      (λ j l s. false_from_ne_true _ (λ m. both_ways _ (f j (omega arith)) (and_from (first j) (is_member j leading) s m))))
+      X fresh t
+      (subst (λ n. AreMatchable rows n (with_one X element)) size
+      (AreMatchable-transversal (length rows) family rows r (with_one X element) (is_transversal-gives (length rows) family (with_one X element) whole)))))
+
 module _ (rows : List (List ℕ)) (X : List ℕ) (matched : List (Option ℕ)) (element : ℕ) (t : IsMatching rows X matched)
     (fresh : is_member element X ≡ false) (below : element < length rows) (family : List (List ℕ)) (size : length family ≡ length matched)
     (inside : All (AllBelow (length rows)) family) (r : AreIndices (length rows) family rows)
     (passes : is_transversal (length rows) family X ≡ true) (read : List (Option ℕ)) (same : read ≡ matched) (live : List ℕ) where
-  -- whether the element can be added, by what a search finds
-  pub adds_told : live ≡ all_below (length matched) → (rest found : List ℕ) (end : Option (Vec ℕ))
-      → IsSought (length read) (λ j. is_held rows (entry_at read j)) (λ j. is_member j (row_at rows element)) (λ j. is_none (entry_at read j)) live rest found end
-      → is_some end ≡ (row_of (is_transversal (length rows) family) X element).addable
-  adds_told all rest found (Some walk) s = ap (λ (e : Exchange). e.addable)
-      (row_added rows X matched element t fresh below family size inside r passes read same live walk.items X refl s.0)
-  adds_told all rest found None s =
-      sym (row-addable (is_transversal (length rows) family) X element _ fresh refl
-      ∙ false_from_ne_true _ (λ h. stuck_ends rows matched read element same live (IsShut-all (length matched) _ _ live all) rest s.0 X fresh t
-      (subst (λ n. AreMatchable rows n (with_one X element)) size
-      (AreMatchable-transversal (length rows) family rows r (with_one X element) (is_transversal-gives (length rows) family (with_one X element) h)))))
-
   pub row_spent : (n : ℕ) → n ≡ length read → live ≡ all_below n → (rest found : List ℕ)
       → IsSpent (length read) (λ j. is_held rows (entry_at read j)) (λ j. is_member j (row_at rows element)) (λ j. is_none (entry_at read j)) live rest
       → ((v : ℕ) → is_member v found ≡ (is_member v live && not (is_member v rest)))

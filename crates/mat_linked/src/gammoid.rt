@@ -10,7 +10,7 @@ ghost use Rattle.mat_linked.specs.{
 };
 
 use crate::kept_linking::KeptLinking;
-use mat_flow::{Digraph, Linker};
+use mat_flow::{Digraph, Linker, Reroutes};
 use mat_laws::{Exchange, Matroid};
 use mat_sets::{BitSet, ElemSet};
 use std::alloc::{AllocError, Global};
@@ -96,6 +96,26 @@ fn link_along(
     Ok((set, links))
 }
 
+// What is kept of disjoint paths.
+fn kept_of(
+    alloc: Global,
+    back: &Digraph,
+    sources: &BitSet,
+    reroutes: Reroutes,
+) -> Result<KeptLinking, AllocError>
+    requires { (vertices : ℕ) × (arcs : List (ℕ × ℕ)) × (ends : List ℕ) × IsTurned vertices arcs back.now
+        × AreReroutes vertices arcs sources.now ends reroutes }
+    ensures { IfOk result (λ kept. (vertices : ℕ) (arcs : List (ℕ × ℕ)) (targets base : List ℕ) → IsTurned vertices arcs back.now
+        → AreReroutes vertices arcs sources.now (set_of_vertices targets base) reroutes
+        → IsKeptLinking vertices arcs sources.now targets base kept) }
+{
+    let next_ends = reroutes.next_ends(alloc, back, sources)?;
+    Ok(KeptLinking {
+        reroutes,
+        next_ends,
+    })
+}
+
 // Disjoint paths to the vertices of an independent set.
 fn keep_paths(
     alloc: Global,
@@ -111,9 +131,7 @@ fn keep_paths(
     ensures { IfOk result (λ kept. IsKeptLinking graph.now.vertices graph.now.arcs sources.now targets.now base.now kept) }
 {
     let (_, links) = link_along(alloc, graph, back, sources, targets, base.as_slice())?;
-    Ok(KeptLinking {
-        reroutes: links.into_reroutes(),
-    })
+    kept_of(alloc, back, sources, links.into_reroutes())
 }
 
 // Disjoint paths to the vertices of an independent set, from such as are kept of another one: the path to each member that is gone is
@@ -145,9 +163,7 @@ fn keep_next_paths(
     for x in more.as_slice() {
         linker.link(alloc, graph, back, sources, targets[*x as usize])?;
     }
-    Ok(KeptLinking {
-        reroutes: linker.into_reroutes(),
-    })
+    kept_of(alloc, back, sources, linker.into_reroutes())
 }
 
 // Those of the elements whose vertices are of this set.
@@ -213,25 +229,14 @@ fn row_by_paths(
 }
 
 // Whether an element can be added, by what is kept.
-fn adds_by_paths(
-    alloc: Global,
-    back: &Digraph,
-    sources: &BitSet,
-    targets: &[u32],
-    base: &ElemSet,
-    kept: &KeptLinking,
-    x: u32,
-) -> Result<bool, AllocError>
-    requires element { x < length targets.now }
-    requires kept { (vertices : ℕ) × (arcs : List (ℕ × ℕ)) × (ends : List ℕ) × IsTurned vertices arcs back.now
-        × AreReroutes vertices arcs sources.now ends kept.now.reroutes }
-    ensures { IfOk result (λ added. (vertices : ℕ) (arcs : List (ℕ × ℕ)) → IsTurned vertices arcs back.now
-        → IsGammoid vertices arcs sources.now targets.now → is_gammoid vertices arcs sources.now targets.now base.now ≡ true → is_member x base.now ≡ false
-        → IsKeptLinking vertices arcs sources.now targets.now base.now kept.now
-        → added ≡ (row_of (is_gammoid vertices arcs sources.now targets.now) base.now x).addable) }
+fn adds_by_paths(targets: &[u32], kept: &KeptLinking, x: u32) -> bool
+    requires { x < length targets.now }
+    ensures { (vertices : ℕ) (arcs : List (ℕ × ℕ)) (sources base : List ℕ) → IsGammoid vertices arcs sources targets.now
+        → is_gammoid vertices arcs sources targets.now base ≡ true → is_member x base ≡ false
+        → IsKeptLinking vertices arcs sources targets.now base kept.now
+        → result ≡ (row_of (is_gammoid vertices arcs sources targets.now) base x).addable }
 {
-    kept.reroutes
-        .has_path_to(alloc, back, sources, targets[x as usize])
+    kept.next_ends.contains(targets[x as usize])
 }
 
 impl Gammoid {
@@ -389,23 +394,14 @@ impl Matroid for Gammoid {
         )
     }
 
-    /// Whether an element can be added, by one search of the bits of the graph, back from its vertex in what the paths leave. The only error
-    /// is want of memory.
+    /// Whether an element can be added, by the bit of its vertex. It takes no memory.
     fn adds(
         &self,
-        alloc: Global,
-        base: &ElemSet,
+        _alloc: Global,
+        _base: &ElemSet,
         kept: &KeptLinking,
         x: u32,
     ) -> Result<bool, AllocError> {
-        adds_by_paths(
-            alloc,
-            &self.back,
-            &self.starts,
-            &self.targets,
-            base,
-            kept,
-            x,
-        )
+        Ok(adds_by_paths(&self.targets, kept, x))
     }
 }

@@ -1,16 +1,17 @@
 //! What a transversal matroid keeps of an independent set.
-ghost use Rattle.std.specs.{Prelude.{◌≡◌, ◌<◌, ◌^◌, ℕ, List, true, false, length, IfOk}, List.{All}};
+ghost use Rattle.std.specs.{Prelude.{◌≡◌, ◌<◌, ◌^◌, ℕ, List, Some, true, false, length, IfOk}, List.{All}};
 ghost use Rattle.mat_sets.specs.Sets.{is_member, minus, AllBelow, IsRising};
+ghost use Rattle.mat_flow.specs.LinkTables.{entry_at};
 ghost use Rattle.mat_laws.specs.Exchanges.{row_of};
 ghost use Rattle.mat_linked.specs.{
-  KeptMatchings.{IsKeptMatching},
+  KeptMatchings.{IsKeptMatching, LeadToFree},
   Matchings.{entry_without, is_matched_among, AreIndices, AreMatchable, IsMatching},
   Transversals.{is_transversal},
 };
 
 use crate::alternating::Alternating;
 use crate::matching::matched_with_new;
-use mat_flow::SearchRoom;
+use mat_flow::{SearchRoom, leading_vertices};
 use mat_laws::Exchange;
 use mat_sets::{BitRows, BitSet, ElemSet};
 use std::alloc::{AllocError, Global};
@@ -21,6 +22,8 @@ use std::alloc::{AllocError, Global};
 pub struct KeptMatching {
     // At j the element that the set with index j is matched with.
     matched: Vec<Option<u32>>,
+    // The indices from which a walk leads to a set that is not matched.
+    leading: BitSet,
 }
 
 // The elements that the sets with these indices are matched with.
@@ -68,6 +71,26 @@ fn matched_without(
     Ok(left)
 }
 
+// What is kept of a matching with an entry for each of so many sets.
+fn kept_of(
+    alloc: Global,
+    rows: &BitRows,
+    sets: u32,
+    matched: Vec<Option<u32>>,
+) -> Result<KeptMatching, AllocError>
+    requires long { length matched.items ≡ sets }
+    requires below { (j x : ℕ) → entry_at matched.items j ≡ Some x → x < length rows.now }
+    ensures { IfOk result (λ kept. (kept.matched.items ≡ matched.items) × LeadToFree rows.now matched.items kept.leading) }
+{
+    let walks = Alternating {
+        rows,
+        matched: &matched,
+        element: None,
+    };
+    let leading = leading_vertices(alloc, &walks, sets)?;
+    Ok(KeptMatching { matched, leading })
+}
+
 impl KeptMatching {
     /// A matching of this independent set, where `rows` has for each element the indices of the sets that hold it. The only
     /// error is want of memory.
@@ -84,7 +107,7 @@ impl KeptMatching {
     {
         let empty = vec![in alloc; None; sets as usize]?;
         let matched = matched_with_new(alloc, rows, sets, empty, &ElemSet::new(alloc), base)?;
-        Ok(KeptMatching { matched })
+        kept_of(alloc, rows, sets, matched)
     }
 
     /// A matching of another independent set: the members that are gone are taken out of this one, and one search of the bits of the rows
@@ -107,35 +130,20 @@ impl KeptMatching {
         let gone = base.minus(alloc, next)?;
         let common = matched_without(alloc, &self.matched, &gone)?;
         let matched = matched_with_new(alloc, rows, sets, common, base, next)?;
-        Ok(KeptMatching { matched })
+        kept_of(alloc, rows, sets, matched)
     }
 
-    /// Whether an element x outside the set can be added, by one search of the bits of the rows from the sets that hold x to one that is
-    /// not matched (Schrijver, chapter 16). The only error is want of memory.
-    pub(crate) fn adds(
-        &self,
-        alloc: Global,
-        rows: &BitRows,
-        base: &ElemSet,
-        x: u32,
-    ) -> Result<bool, AllocError>
-        requires matching { IsMatching rows.now base.now self.now.matched.items }
-        requires few { length self.now.matched.items < 2 ^ 32 }
-        requires below { x < length rows.now }
-        requires outside { is_member x base.now ≡ false }
-        ensures { IfOk result (λ added. (family : List (List ℕ)) → length family ≡ length self.now.matched.items
+    /// Whether an element x outside the set can be added: whether from a set that holds it a walk leads to one that is not matched
+    /// (Schrijver, chapter 16). It takes no memory.
+    pub(crate) fn adds(&self, rows: &BitRows, x: u32) -> bool
+        requires { x < length rows.now }
+        ensures { (family : List (List ℕ)) (base : List ℕ) → is_member x base ≡ false → IsMatching rows.now base self.now.matched.items
+            → LeadToFree rows.now self.now.matched.items self.now.leading → length family ≡ length self.now.matched.items
             → All (AllBelow (length rows.now)) family → AreIndices (length rows.now) family rows.now
-            → is_transversal (length rows.now) family base.now ≡ true
-            → added ≡ (row_of (is_transversal (length rows.now) family) base.now x).addable) }
+            → is_transversal (length rows.now) family base ≡ true
+            → result ≡ (row_of (is_transversal (length rows.now) family) base x).addable }
     {
-        let search = Alternating {
-            rows,
-            matched: &self.matched,
-            element: x,
-        };
-        let mut room = SearchRoom::new(alloc, self.matched.len() as u32)?;
-        let walk = room.seek(alloc, &search)?;
-        Ok(walk.is_some())
+        rows.row(x).next_common(&self.leading, 0).is_some()
     }
 
     /// The exchanges of an element x outside the set, by one search of the bits of the rows from the sets that hold x. Where it
@@ -161,7 +169,7 @@ impl KeptMatching {
         let search = Alternating {
             rows,
             matched: &self.matched,
-            element: x,
+            element: Some(x),
         };
         let mut room = SearchRoom::new(alloc, self.matched.len() as u32)?;
         match room.seek(alloc, &search)? {

@@ -35,7 +35,7 @@ fn match_one(
     let search = Alternating {
         rows,
         matched,
-        element,
+        element: Some(element),
     };
     match room.seek(alloc, &search)? {
         Some(walk) => {

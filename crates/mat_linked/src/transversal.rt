@@ -143,14 +143,14 @@ impl Matroid for Transversal {
         kept.row(alloc, &self.rows, base, x)
     }
 
-    /// Whether an element can be added, by one search of the bits of the rows. The only error is want of memory.
+    /// Whether an element can be added, by the bits of its row. It takes no memory.
     fn adds(
         &self,
-        alloc: Global,
-        base: &ElemSet,
+        _alloc: Global,
+        _base: &ElemSet,
         kept: &KeptMatching,
         x: u32,
     ) -> Result<bool, AllocError> {
-        kept.adds(alloc, &self.rows, base, x)
+        Ok(kept.adds(&self.rows, x))
     }
 }

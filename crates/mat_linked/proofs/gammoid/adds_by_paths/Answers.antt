@@ -1,10 +1,14 @@
-use Rattle.std.proofs.lemmas.Result.{IfOk-weaker}
-use Rattle.mat_linked.specs.Gammoids.{set_of_vertices}
+use Rattle.std.proofs.Common.{◌∙◌, get_or}
+use Rattle.mat_sets.specs.Sets.{is_member}
+use Rattle.mat_sets.proofs.Sums.{AllBelow-at}
 use Rattle.mat_linked.proofs.LinkedRows.{adds_told}
 use Rattle.mat_linked.proofs.gammoid.adds_by_paths.Goals as goal
 
 pub returns : goal.returns
-returns c =
-    IfOk-weaker c.has_path_to.result _ _ (λ found told vertices arcs is given ok out k.
-    adds_told vertices arcs c.args.sources.now c.args.targets.now given c.args.base.now ok c.args.x c.requires.element out found
-    (told vertices arcs (set_of_vertices c.args.targets.now c.args.base.now) is k.reroutes)) c.has_path_to.ensures
+returns c = λ vertices arcs sources base given ok out k.
+    let targets = c.args.targets.now in
+    let x = c.args.x in
+    let v = get_or targets x 0 in
+    c.contains.ensures
+    ∙ adds_told vertices arcs sources targets given base ok x c.requires out (is_member v c.args.kept.now.next_ends)
+    (k.next_ends v (AllBelow-at vertices targets x given.targets_inside c.requires))

@@ -1,6 +1,7 @@
 -- First the loop over the vertices of the base that are not in the next set takes their paths away, then that over the new vertices adds a path
 -- for each; in between the paths end at the common vertices.
 use Rattle.std.proofs.Common.{get_or, refl, arith, subst, sym, ◌∙◌}
+use Rattle.std.proofs.lemmas.Result.{IfOk-weaker}
 use Rattle.mat_flow.specs.LinkedEnds.{IsLinkedTo}
 use Rattle.mat_flow.specs.Reroutes.{AreReroutes}
 use Rattle.mat_sets.specs.Sets.{intersection}
@@ -125,6 +126,21 @@ of_table-requires c =
       subst (λ n. IsLinkedTo n graph.arcs sources (set_of_vertices targets (intersection base next)) c.loop-y.links) (sym c.vertices-2.ensures.count) linked,
     )
 
+pub kept_of-requires : goal.kept_of-requires
+kept_of-requires c =
+    let graph = c.args.graph.now in
+    let sources = c.args.sources.now in
+    let targets = c.args.targets.now in
+    let base = c.args.base.now in
+    let next = c.args.next.now in
+    let linked = AreMorePaths-all graph.vertices graph.arcs sources targets c.requires.gammoid (intersection base next) next
+    c.as_slice-x-items.result.now (intersection-right base next) c.requires.next (IsRising-intersection base next c.in_ok-more.ensures.other_rises)
+    (c.as_slice-x-items.ensures.items ∙ c.in_ok-more.ensures.members ∙ new_beside_common base next c.in_ok-more.ensures.rises) c.loop-x.x-index
+    c.loop-x.linker (omega (arith, c.loop-x-test.false)) c.loop-x.invariant in
+    let reroutes = c.into_reroutes.ensures graph.vertices graph.arcs sources (set_of_vertices targets next) c.requires.gammoid.graph
+    c.requires.gammoid.sources_inside.below linked in
+    (graph.vertices, graph.arcs, set_of_vertices targets next, c.requires.back, reroutes)
+
 pub returns : goal.returns
 returns c =
     let graph = c.args.graph.now in
@@ -136,7 +152,6 @@ returns c =
     c.as_slice-x-items.result.now (intersection-right base next) c.requires.next (IsRising-intersection base next c.in_ok-more.ensures.other_rises)
     (c.as_slice-x-items.ensures.items ∙ c.in_ok-more.ensures.members ∙ new_beside_common base next c.in_ok-more.ensures.rises) c.loop-x.x-index
     c.loop-x.linker (omega (arith, c.loop-x-test.false)) c.loop-x.invariant in
-    record {
-      reroutes = c.into_reroutes.ensures graph.vertices graph.arcs sources (set_of_vertices targets next) c.requires.gammoid.graph
-          c.requires.gammoid.sources_inside.below linked;
-    }
+    let reroutes = c.into_reroutes.ensures graph.vertices graph.arcs sources (set_of_vertices targets next) c.requires.gammoid.graph
+    c.requires.gammoid.sources_inside.below linked in
+    IfOk-weaker c.kept_of.result _ _ (λ kept told. told graph.vertices graph.arcs targets next c.requires.back reroutes) c.kept_of.ensures

@@ -1,4 +1,5 @@
 use Rattle.std.proofs.Common.{[], ◌∙◌, length, subst, sym, ap}
+use Rattle.std.proofs.lemmas.Result.{IfOk-weaker}
 use Rattle.mat_sets.specs.Sets.{AllBelow, AreDistinct}
 use Rattle.mat_sets.proofs.Ground.{AreDistinct-rising}
 use Rattle.mat_flow.specs.LinkedEnds.{IsLinker}
@@ -18,6 +19,21 @@ pub link_along-requires-clause-distinct : goal.link_along-requires-clause-distin
 link_along-requires-clause-distinct c =
     subst AreDistinct (sym c.as_slice.ensures.items) (AreDistinct-rising c.args.base.now c.as_slice.ensures.rises)
 
+pub kept_of-requires : goal.kept_of-requires
+kept_of-requires c =
+    let graph = c.args.graph.now in
+    let sources = c.args.sources.now in
+    let targets = c.args.targets.now in
+    let base = c.args.base.now in
+    let laws = gammoid_laws graph.vertices graph.arcs sources targets c.requires.gammoid in
+    let same = c.in_ok-links.ensures.set ∙ ap (grown_along (is_gammoid graph.vertices graph.arcs sources targets) []) c.as_slice.ensures.items
+    ∙ run_all laws base c.requires.base in
+    let linked = subst (λ b. IsLinker graph.vertices graph.arcs sources (set_of_vertices targets b) c.in_ok-links.links) same
+    c.in_ok-links.ensures.links in
+    let reroutes = c.into_reroutes.ensures graph.vertices graph.arcs sources (set_of_vertices targets base) c.requires.gammoid.graph
+    c.requires.gammoid.sources_inside.below linked in
+    (graph.vertices, graph.arcs, set_of_vertices targets base, c.requires.back, reroutes)
+
 pub returns : goal.returns
 returns c =
     let graph = c.args.graph.now in
@@ -29,7 +45,6 @@ returns c =
     ∙ run_all laws base c.requires.base in
     let linked = subst (λ b. IsLinker graph.vertices graph.arcs sources (set_of_vertices targets b) c.in_ok-links.links) same
     c.in_ok-links.ensures.links in
-    record {
-      reroutes = c.into_reroutes.ensures graph.vertices graph.arcs sources (set_of_vertices targets base) c.requires.gammoid.graph
-          c.requires.gammoid.sources_inside.below linked;
-    }
+    let reroutes = c.into_reroutes.ensures graph.vertices graph.arcs sources (set_of_vertices targets base) c.requires.gammoid.graph
+    c.requires.gammoid.sources_inside.below linked in
+    IfOk-weaker c.kept_of.result _ _ (λ kept told. told graph.vertices graph.arcs targets base c.requires.back reroutes) c.kept_of.ensures
