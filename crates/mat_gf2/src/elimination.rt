@@ -8,7 +8,7 @@ ghost use Rattle.mat_gf2.specs.{
   TaggedColumns.{IsTaggedBasis, marked, reduced_tagged_by},
 };
 
-use mat_sets::ElemSet;
+use mat_sets::{BitSet, ElemSet};
 use std::alloc::{AllocError, Global};
 
 // What is left of a column when it is reduced by each of the basis in turn.
@@ -60,15 +60,15 @@ pub(crate) fn run_along(
     ensures { IfOk result (λ set. set ≡ grown_along (is_gf2 (length columns.now) (column_of columns.now)) [] order.now) }
 {
     let mut basis: Vec<u128> = Vec::new(alloc);
-    let mut set = ElemSet::new(alloc);
+    let mut set = BitSet::new(alloc);
     for x in order {
         let left = reduce(&basis, columns[*x as usize]);
         if left != 0 {
             basis.push(left)?;
-            set.add(*x)?;
+            set.insert(*x)?;
         }
     }
-    Ok(set)
+    ElemSet::from_bits(alloc, &set)
 }
 
 /// A column with a tag, whose bits are places of members of a set.

@@ -1,4 +1,5 @@
 use Rattle.std.proofs.Common.{◌∙◌, true, false, length, refl, ap, slice_index_or}
+use Rattle.std.proofs.lemmas.Result.{IfOk-weaker}
 use Rattle.mat_sets.proofs.Sums.{AllBelow-at}
 use Rattle.mat_laws.proofs.GreedyRunSteps.{IsRunning-start, IsRunning-next, IsRunning-end}
 use Rattle.mat_gf2.specs.Columns.{column_of}
@@ -6,13 +7,13 @@ use Rattle.mat_gf2.specs.Eliminations.{reduced_by}
 use Rattle.mat_gf2.specs.Gf2Laws.{gf2_laws}
 use Rattle.mat_gf2.proofs.GrowingBasis.{IsBasisOf-start, IsBasisOf-more, enters, stays_out}
 use Rattle.mat_gf2.proofs.elimination.run_along.Goals as goal
-use Rattle.mat_gf2.proofs.elimination.run_along.Goals.{then-left-ne0+in_ok-push+in_ok-add, else-left-ne0}
+use Rattle.mat_gf2.proofs.elimination.run_along.Goals.{then-left-ne0+in_ok-push+in_ok-insert, else-left-ne0}
 
 pub loop-x-init : goal.loop-x-init
 loop-x-init c =
     let column = column_of c.args.columns.now in (
-      IsRunning-start _ _ _ (gf2_laws (length c.args.columns.now) column).empty c.new-set.ensures.members,
-      IsBasisOf-start column _ _ c.new-set.ensures.members c.new-basis.ensures.items,
+      IsRunning-start _ _ _ (gf2_laws (length c.args.columns.now) column).empty c.new-set.ensures,
+      IsBasisOf-start column _ _ c.new-set.ensures c.new-basis.ensures.items,
     )
 
 pub bounds-columns-x : goal.bounds-columns-x
@@ -29,9 +30,9 @@ loop-x-preserved c =
     let eliminates = c.loop-x.invariant.1 in
     let next = IsRunning-next _ _ _ c.loop-x.x-index x c.loop-x-test.true refl running in
     elim c.if-left-ne0.branch [
-      | then-left-ne0+in_ok-push+in_ok-add w ↦
+      | then-left-ne0+in_ok-push+in_ok-insert w ↦
           let some = w.if-left-ne0.true in
-          let set = w.set-is ∙ w.in_ok-add.ensures.ok.1 in
+          let set = w.set-is ∙ w.in_ok-insert.ensures.ok in
           let grown = IsBasisOf-more n column _ _ x _ running.passes small told eliminates some in (
             next true c.if-left-ne0.set (enters n column _ _ x _ running.passes small told eliminates some) set,
             rw (set, w.basis-is, w.in_ok-push.ensures.items) grown,
@@ -44,4 +45,6 @@ loop-x-preserved c =
     ]
 
 pub returns : goal.returns
-returns c = IsRunning-end _ _ _ c.loop-x.x-index c.loop-x-test.false c.loop-x.invariant.0
+returns c =
+    IfOk-weaker c.from_bits.result _ _ (λ set members. members ∙ IsRunning-end _ _ _ c.loop-x.x-index c.loop-x-test.false c.loop-x.invariant.0)
+    c.from_bits.ensures.members
