@@ -14,7 +14,7 @@ use crate::rooted_forest::{RootedForest, are_joined, enter_trail, root_trees, tr
 use crate::union_find::{settle, singletons, unite};
 use mat_laws::columns::{empty_columns, enter};
 use mat_laws::{Exchange, Matroid};
-use mat_sets::{ElemSet, Pairs};
+use mat_sets::{BitSet, ElemSet, Pairs};
 use std::alloc::{AllocError, Global};
 
 /// The matroid of the edges of a graph in which a set is independent where it is a forest: no walk along a non-empty
@@ -87,13 +87,13 @@ fn forest_along(
     requires single { IsParentTable (λ v. v) parent.old }
     ensures { IfOk result (λ set. set ≡ grown_along (is_graphic (length edges.now) (ends_of edges.now)) [] order.now) }
 {
-    let mut set = ElemSet::new(alloc);
+    let mut set = BitSet::new(alloc);
     for x in order {
         if unite_ends(parent, edges, *x) {
-            set.add(*x)?;
+            set.insert(*x)?;
         }
     }
-    Ok(set)
+    ElemSet::from_bits(alloc, &set)
 }
 
 impl Graphic {

@@ -1,4 +1,5 @@
 use Rattle.std.proofs.Common.{◌≡◌, if◌then◌else◌, length, get_or, refl, ◌∙◌, subst, sym}
+use Rattle.std.proofs.lemmas.Result.{IfOk-weaker}
 use Rattle.mat_sets.specs.Graphs.{ends_of}
 use Rattle.mat_sets.specs.Sets.{with_one}
 use Rattle.mat_sets.proofs.Sums.{AllBelow-at}
@@ -9,13 +10,13 @@ use Rattle.mat_graphic.specs.ParentTables.{IsParentTable}
 use Rattle.mat_graphic.proofs.GraphicRuns.{enters_apart, table_after}
 use Rattle.mat_graphic.proofs.Uniting.{table_empty}
 use Rattle.mat_graphic.proofs.graphic.forest_along.Goals as goal
-use Rattle.mat_graphic.proofs.graphic.forest_along.Goals.{then-unite_ends+in_ok-add, else-unite_ends}
+use Rattle.mat_graphic.proofs.graphic.forest_along.Goals.{then-unite_ends+in_ok-insert, else-unite_ends}
 
 pub loop-x-init : goal.loop-x-init
 loop-x-init c = record {
-  running = IsRunning-start _ _ _ (graphic_laws (length c.args.edges.now) (ends_of c.args.edges.now)).empty c.new-set.ensures.members;
+  running = IsRunning-start _ _ _ (graphic_laws (length c.args.edges.now) (ends_of c.args.edges.now)).empty c.new-set.ensures;
   descending = c.requires.descending;
-  united = table_empty (ends_of c.args.edges.now) _ _ c.new-set.ensures.members c.requires.single;
+  united = table_empty (ends_of c.args.edges.now) _ _ c.new-set.ensures c.requires.single;
 }
 
 pub unite_ends-requires-clause-below : goal.unite_ends-requires-clause-below
@@ -30,7 +31,7 @@ loop-x-preserved c =
     let small = AllBelow-at _ _ c.loop-x.x-index c.requires.below c.loop-x-test.true in
     let told = c.unite_ends.ensures.apart set c.loop-x.invariant.united in
     let after : c.if-unite_ends.set ≡ (if apart then with_one set x else set) = elim c.if-unite_ends.branch [
-      | then-unite_ends+in_ok-add w ↦ rw w.if-unite_ends.true (w.set-is ∙ w.in_ok-add.ensures.ok.1)
+      | then-unite_ends+in_ok-insert w ↦ rw w.if-unite_ends.true (w.set-is ∙ w.in_ok-insert.ensures.ok)
       | else-unite_ends w ↦ rw w.if-unite_ends.false w.set-is
     ] in
     record {
@@ -42,4 +43,6 @@ loop-x-preserved c =
     }
 
 pub returns : goal.returns
-returns c = IsRunning-end _ _ _ c.loop-x.x-index c.loop-x-test.false c.loop-x.invariant.running
+returns c =
+    IfOk-weaker c.from_bits.result _ _ (λ set members. members ∙ IsRunning-end _ _ _ c.loop-x.x-index c.loop-x-test.false c.loop-x.invariant.running)
+    c.from_bits.ensures.members
