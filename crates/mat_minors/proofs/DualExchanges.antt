@@ -253,7 +253,7 @@ kept_row-added I base columns x column copy at same here leaves =
     ∙ ap (λ b. cond b (exchanged_for (get_or columns x [])) (added I)) test)
 
 -- the row by what is kept is the row of the dual
-kept_row_is : {n : ℕ} {p : List ℕ → Bool} → IsMatroid n p → (I base : List ℕ) (columns : List (List ℕ)) (x : ℕ) (row : Exchange)
+pub kept_row_is : {n : ℕ} {p : List ℕ → Bool} → IsMatroid n p → (I base : List ℕ) (columns : List (List ℕ)) (x : ℕ) (row : Exchange)
     → is_dual n p I ≡ true → IsDualKept n p I base columns → x < n → is_member x I ≡ false → IsRising row.with
     → row ≡ kept_row I base columns x → row ≡ row_of (is_dual n p) I x
 kept_row_is {n} {p} laws I base columns x row passes kept small out r told = elim (cases_Bool (is_member x base)) [

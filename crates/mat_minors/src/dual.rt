@@ -131,3 +131,16 @@ pub fn dual_row(
         with: set.copy(alloc)?,
     })
 }
+
+/// Whether x, outside an independent set of a dual, can be added, from what is kept of the set. It takes no memory.
+pub fn dual_adds(set: &ElemSet, kept: &DualKept, x: u32) -> bool
+    requires { x < length kept.now.columns.items }
+    ensures told { result ≡ (kept_row set.now kept.now.base kept.now.columns.items x).addable }
+    ensures rises { IsRising set.now → IsRising (kept_row set.now kept.now.base kept.now.columns.items x).with }
+{
+    if !kept.base.contains(x) {
+        return true;
+    }
+    let column = &kept.columns[x as usize];
+    !column.is_subset(set)
+}
