@@ -50,6 +50,12 @@ module _ {n : ℕ} {sets : List (List ℕ)} {caps order set numbers : List ℕ} 
     counts = subst (λ s. CountsMembers sets s numbers) (sym (is ∙ with_one-member set x ranges.rising member)) c.counts;
   }
 
+  -- so too if nothing is done with it
+  pub IsCounting-kept : (x : ℕ) (after : List ℕ) → i < length order → x ≡ get_or order i 0
+      → not (is_member x set) ≡ false → after ≡ set → IsCounting n sets caps order (i + 1) after numbers
+  IsCounting-kept x after inside at old is =
+      IsCounting-repeated x after inside at old (is ∙ sym (with_one-member set x ranges.rising (not-false (is_member x set) old)))
+
   -- an element that fits, and is counted where it stands
   pub IsCounting-entered : (x : ℕ) (after numbers' : List ℕ) → i < length order → x ≡ get_or order i 0
       → is_member x set ≡ false → is_counted n sets caps (with_one set x) ≡ true → after ≡ with_one set x

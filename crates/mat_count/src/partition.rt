@@ -15,7 +15,7 @@ use crate::caps::are_within;
 use crate::full_sets::FullSets;
 use crate::labels::classes_by;
 use mat_laws::{Exchange, Matroid};
-use mat_sets::{ElemSet, SetList};
+use mat_sets::{BitSet, ElemSet, SetList};
 use std::alloc::{AllocError, Global};
 use std::marker::Model;
 
@@ -127,14 +127,15 @@ fn run_by_classes(
     ensures { IfOk result (λ set. set ≡ grown_along (is_counted (length class_of.now) classes.now caps.now) [] order.now) }
 {
     let mut numbers: Vec<usize> = vec![in alloc; 0; classes.len()]?;
-    let mut set = ElemSet::new(alloc);
+    let mut set = BitSet::new(alloc);
     for x in order {
         let entry = class_of[*x as usize];
-        if !names_full(entry, caps, &numbers) && set.add(*x)? {
+        if !names_full(entry, caps, &numbers) && !set.contains(*x) {
+            set.insert(*x)?;
             count(&mut numbers, entry);
         }
     }
-    Ok(set)
+    ElemSet::from_bits(alloc, &set)
 }
 
 impl Partition {

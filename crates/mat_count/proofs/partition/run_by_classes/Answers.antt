@@ -1,17 +1,19 @@
-use Rattle.std.proofs.Common.{◌≡◌, length, get_or, replicate, rules, refl, sym, ap, ◌∙◌, arith, None}
+use Rattle.std.proofs.Common.{◌≡◌, not, length, get_or, replicate, rules, refl, sym, ap, ◌∙◌, arith, None}
+use Rattle.std.proofs.lemmas.Result.{IfOk-weaker}
 use Rattle.mat_sets.proofs.Steps.{written_back}
 use Rattle.mat_sets.proofs.Sums.{AllBelow-at}
+use Rattle.mat_laws.proofs.GreedyRunSteps.{IsRunning-end}
 use Rattle.mat_count.specs.PartitionLaws.{IsLaminarFamily-from_disjoint}
-use Rattle.mat_count.proofs.CountedRuns.{IsCounting-start, IsCounting-repeated, counter-small}
+use Rattle.mat_count.proofs.CountedRuns.{IsCounting-start, IsCounting-kept, counter-small}
 use Rattle.mat_count.proofs.PartitionRuns.{entry_known, partition_run-passed, partition_run-entered}
 use Rattle.mat_count.proofs.partition.run_by_classes.Goals as goal
-use Rattle.mat_count.proofs.partition.run_by_classes.Goals.{then-not-names_full+in_ok-add+then-branch, else-not-names_full, else-not-names_full-via-then-not-names_full+in_ok-add+else-branch, else-not-names_full-via-else-not-names_full}
+use Rattle.mat_count.proofs.partition.run_by_classes.Goals.{then-not-names_full+then-not-contains+in_ok-insert, else-not-names_full, else-not-names_full-via-then-not-names_full+else-not-contains, else-not-names_full-via-else-not-names_full}
 
 pub loop-x-init : goal.loop-x-init
 loop-x-init c =
     let made : c.in_ok-numbers.numbers.items ≡ replicate c.len.result 0 = search rules in
     IsCounting-start (length c.args.class_of.now) c.args.classes.now c.args.caps.now c.args.order.now c.new-set.result c.in_ok-numbers.numbers.items
-    c.len.result (IsLaminarFamily-from_disjoint c.args.classes.now c.requires.sound.disjoint) c.new-set.ensures.members made c.len.ensures.count
+    c.len.result (IsLaminarFamily-from_disjoint c.args.classes.now c.requires.sound.disjoint) c.new-set.ensures made c.len.ensures.count
 
 pub bounds-class_of-x : goal.bounds-class_of-x
 bounds-class_of-x c = AllBelow-at (length c.args.class_of.now) c.args.order.now c.loop-x.x-index c.requires.below c.loop-x-test.true
@@ -38,19 +40,23 @@ loop-x-preserved c =
     let run = c.loop-x.invariant in
     let asked = rw c.deref.ensures.value at c.names_full.ensures in
     elim c.if-not-names_full.branch [
-      | then-not-names_full+in_ok-add+then-branch w ↦ (
+      | then-not-names_full+then-not-contains+in_ok-insert w ↦ (
           let counted = rw w.deref_mut.ensures.value at w.count.ensures in
           rw w.numbers-is
           (rw (written_back c.loop-x.numbers.len w.count.new.numbers before (w.count.auto.numbers ∙ w.deref_mut.ensures.len))
           (partition_run-entered run c.requires.sound.capped table c.requires.table x small c.loop-x-test.true refl (get_or table x None) refl c.if-not-names_full.set
-          w.count.new.numbers (sym asked ∙ w.if-not-names_full.true) (sym w.in_ok-add.ensures.ok.0 ∙ w.if-branch.true)
-          (w.set-is ∙ w.in_ok-add.ensures.ok.1) (w.count.auto.numbers ∙ ap length w.deref_mut.ensures.value) counted)))
+          w.count.new.numbers (sym asked ∙ w.if-not-names_full.true) (ap not (sym w.contains.ensures ∙ w.if-not-contains.true))
+          (w.set-is ∙ w.in_ok-insert.ensures.ok) (w.count.auto.numbers ∙ ap length w.deref_mut.ensures.value) counted)))
       | else-not-names_full w ↦ rw w.numbers-is (elim w.else-not-names_full.branch [
-        | else-not-names_full-via-then-not-names_full+in_ok-add+else-branch v ↦
-            IsCounting-repeated run x c.if-not-names_full.set c.loop-x-test.true refl (sym v.in_ok-add.ensures.ok.0 ∙ v.if-branch.false)
-            (w.set-is ∙ v.set-is ∙ v.in_ok-add.ensures.ok.1)
+        | else-not-names_full-via-then-not-names_full+else-not-contains v ↦
+            IsCounting-kept run x c.if-not-names_full.set c.loop-x-test.true refl (ap not (sym v.contains.ensures ∙ v.if-not-contains.false)) w.set-is
         | else-not-names_full-via-else-not-names_full v ↦
             partition_run-passed run c.requires.sound.capped table c.requires.table x small c.loop-x-test.true refl (get_or table x None) refl c.if-not-names_full.set
-            (sym asked ∙ v.if-not-names_full.false) (w.set-is ∙ v.set-is)
+            (sym asked ∙ v.if-not-names_full.false) w.set-is
       ])
     ]
+
+pub returns : goal.returns
+returns c =
+    IfOk-weaker c.from_bits.result _ _ (λ set members. members ∙ IsRunning-end _ _ _ c.loop-x.x-index c.loop-x-test.false c.loop-x.invariant.run)
+    c.from_bits.ensures.members
