@@ -3,5 +3,6 @@
 
 mod greedy;
 mod order;
+mod order_keys;
 
 pub use greedy::{heaviest_each, heaviest_of, heaviest_weights};
