@@ -1,14 +1,14 @@
 -- The vertices from which a walk leads to a goal are found in rounds. A round that puts none in has left none out, and as many rounds as there are
 -- vertices have put all of them in.
-use Rattle.std.proofs.Common.{◌≡◌, ℕ, suc, ◌+◌, ◌<◌, ◌≤◌, Bool, true, false, not, ◌&&◌, ◌||◌, eqb, ltb, List, [], length, inl, inr, refl, sym, ap, ◌∙◌, subst, arith}
-use Rattle.std.proofs.lemmas.Bool.{and_from, and_parts, both_ways, cases_Bool, cases_eq, eqb-true, false_from_ne_true, false≢true, lt-ltb, ltb-true, not-true, or_cases, or_left, or_right, eq-eqb}
+use Rattle.std.proofs.Common.{◌≡◌, ℕ, ◌+◌, ◌<◌, ◌≤◌, Bool, true, false, not, eqb, ltb, List, length, inl, inr, refl, sym, ap, ◌∙◌, subst, arith}
+use Rattle.std.proofs.lemmas.Bool.{and_from, and_parts, both_ways, cases_Bool, cases_eq, eqb-true, false_from_ne_true, false≢true, lt-ltb, ltb-true, not-true, or_cases, or_right}
 use Rattle.mat_sets.specs.Search.{those_below}
 use Rattle.mat_sets.specs.Sets.{is_member, with_one, IsRising}
 use Rattle.mat_sets.specs.Walks.{IsReachedSet, IsShortestWalk}
 use Rattle.mat_sets.proofs.Cardinalities.{length-with_one}
 use Rattle.mat_sets.proofs.Ground.{below_member, length-distinct_below, AllBelow-from_members, AreDistinct-rising}
 use Rattle.mat_sets.proofs.Members.{is_member-with_one, IsRising-with_one}
-use Rattle.mat_sets.proofs.Reach.{finite_reach, reached_by_induction, missed_goals_have_no_walk}
+use Rattle.mat_sets.proofs.Reach.{finite_reach, reached_by_induction}
 use Rattle.mat_sets.proofs.Search.{is_member-those_below, IsSet-those_below}
 use Rattle.mat_flow.specs.Leading.{AreLedFrom, AreLeading, IsLed}
 

@@ -1,7 +1,7 @@
 //! Which ends of disjoint paths can give way to another vertex (Schrijver, chapters 9 and 16).
-ghost use Rattle.std.specs.Prelude.{◌≡◌, ◌↔◌, ℕ, List, [], true, false, Some, IfOk};
+ghost use Rattle.std.specs.Prelude.{◌≡◌, ℕ, List, [], true, false, Some, IfOk};
 ghost use Rattle.mat_sets.specs.Sets.{is_member, with_one};
-ghost use Rattle.mat_flow.specs.{Digraphs.{IsTurned}, LinkedEnds.{IsLinkedTo}, Paths.{HasPathsToEach}, Reroutes.{AreNextEnds, AreReroutes, TellsWays}};
+ghost use Rattle.mat_flow.specs.{Digraphs.{IsTurned}, LinkedEnds.{IsLinkedTo}, Reroutes.{AreNextEnds, AreReroutes, TellsWays}};
 
 use crate::digraph::Digraph;
 use crate::leading::leading_vertices;
