@@ -23,7 +23,7 @@ use crate::any_kept::AnyKept;
 use crate::part::Part;
 use crate::sizes::common_size_of;
 use mat_laws::{Exchange, Matroid};
-use mat_minors::{DualKept, dual_row};
+use mat_minors::{DualKept, dual_adds, dual_row};
 use mat_sets::{BitSet, ElemSet, SetList};
 use mat_union::{MoveSearch, PlaceSearch, found_place, move_into, row_by_search};
 use std::alloc::{AllocError, Global};
@@ -160,18 +160,6 @@ pub(crate) fn columns(
     }
 }
 
-// Whether a matroid is made of others, so that `adds` makes a row.
-fn is_made_of_others(matroid: &AnyMatroid) -> bool {
-    matches!(
-        matroid,
-        AnyMatroid::Dual(_)
-            | AnyMatroid::Truncate { .. }
-            | AnyMatroid::Restrict { .. }
-            | AnyMatroid::Contract { .. }
-            | AnyMatroid::Union { .. }
-    )
-}
-
 // Whether x, outside a set, can be added to one of the parts of the set as they stand, and so to the set in the union.
 fn union_takes_at_once(
     alloc: Global,
@@ -195,7 +183,9 @@ fn union_takes_at_once(
     }
 }
 
-// Whether an element x outside an independent set can be added without a row or a search that tells it: true only where it can be added.
+// Whether an element x outside an independent set can be added without a row or a search that tells it: true only if it can be added. A matroid
+// that is made of one other asks that one, and a union its parts.
+#[cycle(taking)]
 fn takes_at_once(
     alloc: Global,
     matroid: &AnyMatroid,
@@ -211,16 +201,149 @@ fn takes_at_once(
     ensures { IfOk result (λ added. added ≡ true → (row_of (is_independent (tree_of matroid.now)) base.now x).addable ≡ true) }
 {
     match (matroid, kept) {
+        (AnyMatroid::Dual(inner), AnyKept::Dual(dual)) => Ok(dual_adds_within(
+            inner, base, dual, x,
+        )),
+        (AnyMatroid::Dual(inner), AnyKept::DualOfDual(within)) => {
+            dual_of_dual_takes(alloc, inner, base, within, x)
+        }
+        (AnyMatroid::Truncate { cap, inner }, _) => {
+            truncation_takes(alloc, inner, *cap, base, kept, x)
+        }
+        (
+            AnyMatroid::Restrict {
+                kept: elements,
+                inner,
+            },
+            _,
+        ) => restriction_takes(alloc, inner, elements, base, kept, x),
+        (
+            AnyMatroid::Contract { away, inner },
+            AnyKept::Contract {
+                chosen,
+                joined,
+                inner: within,
+            },
+        ) => contraction_takes(alloc, inner, away, base, chosen, joined, within, x),
         (AnyMatroid::Union { parts: matroids }, AnyKept::Union { parts, kept }) => {
             union_takes_at_once(alloc, matroids, base, parts, kept, x)
         }
-        _ => {
-            if is_made_of_others(matroid) {
-                return Ok(false);
-            }
-            adds(alloc, matroid, base, kept, x)
-        }
+        _ => adds(alloc, matroid, base, kept, x),
     }
+}
+
+// Whether x can be added in a dual, of whose matroid the laws alone are used.
+fn dual_adds_within(inner: &AnyMatroid, base: &ElemSet, kept: &DualKept, x: u32) -> bool
+    requires sound { IsSound (tree_of inner.now) }
+    requires base { is_dual (element_count (tree_of inner.now)) (is_independent (tree_of inner.now)) base.now ≡ true }
+    requires kept { IsDualKept (element_count (tree_of inner.now)) (is_independent (tree_of inner.now)) base.now
+        kept.now.base kept.now.columns.items }
+    requires below { x < element_count (tree_of inner.now) }
+    requires outside { is_member x base.now ≡ false }
+    ensures { result ≡ (row_of (is_dual (element_count (tree_of inner.now)) (is_independent (tree_of inner.now))) base.now x).addable }
+{
+    inner.lawful();
+    dual_adds(base, kept, x)
+}
+
+// Whether the matroid within the dual of a dual takes x at once.
+#[cycle(taking)]
+fn dual_of_dual_takes(
+    alloc: Global,
+    inner: &AnyMatroid,
+    base: &ElemSet,
+    kept: &AnyKept,
+    x: u32,
+) -> Result<bool, AllocError>
+    requires sound { IsSound (tree_of inner.now) }
+    requires base { is_dual (element_count (tree_of inner.now)) (is_independent (tree_of inner.now)) base.now ≡ true }
+    requires kept { KeepsDual (tree_of inner.now) base.now kept.now }
+    requires below { x < element_count (tree_of inner.now) }
+    requires outside { is_member x base.now ≡ false }
+    ensures { IfOk result (λ added. added ≡ true
+        → (row_of (is_dual (element_count (tree_of inner.now)) (is_independent (tree_of inner.now))) base.now x).addable ≡ true) }
+{
+    match inner {
+        AnyMatroid::Dual(within) => takes_at_once(alloc, within, base, kept, x),
+        // What is kept is of the dual of a dual.
+        _ => Ok(false),
+    }
+}
+
+// Whether the set is below the cap of a truncation, and the matroid within it takes x at once.
+#[cycle(taking)]
+fn truncation_takes(
+    alloc: Global,
+    inner: &AnyMatroid,
+    cap: u32,
+    base: &ElemSet,
+    kept: &AnyKept,
+    x: u32,
+) -> Result<bool, AllocError>
+    requires sound { IsSound (tree_of inner.now) }
+    requires base { is_truncated cap (is_independent (tree_of inner.now)) base.now ≡ true }
+    requires kept { KeepsAny (tree_of inner.now) base.now kept.now }
+    requires below { x < element_count (tree_of inner.now) }
+    requires outside { is_member x base.now ≡ false }
+    ensures { IfOk result (λ added. added ≡ true → (row_of (is_truncated cap (is_independent (tree_of inner.now))) base.now x).addable ≡ true) }
+{
+    if base.len() >= cap as usize {
+        return Ok(false);
+    }
+    takes_at_once(alloc, inner, base, kept, x)
+}
+
+// Whether x is an element to which the matroid is restricted, and the matroid within the restriction takes it at once.
+#[cycle(taking)]
+fn restriction_takes(
+    alloc: Global,
+    inner: &AnyMatroid,
+    elements: &ElemSet,
+    base: &ElemSet,
+    kept: &AnyKept,
+    x: u32,
+) -> Result<bool, AllocError>
+    requires sound { IsSound (tree_of inner.now) }
+    requires base { is_restricted elements.now (is_independent (tree_of inner.now)) base.now ≡ true }
+    requires kept { KeepsAny (tree_of inner.now) base.now kept.now }
+    requires below { x < element_count (tree_of inner.now) }
+    requires outside { is_member x base.now ≡ false }
+    ensures { IfOk result (λ added. added ≡ true
+        → (row_of (is_restricted elements.now (is_independent (tree_of inner.now))) base.now x).addable ≡ true) }
+{
+    if !elements.contains(x) {
+        return Ok(false);
+    }
+    takes_at_once(alloc, inner, base, kept, x)
+}
+
+// Whether x is not contracted, and the matroid within the contraction takes it at once, at the set together with `_chosen`.
+#[cycle(taking)]
+fn contraction_takes(
+    alloc: Global,
+    inner: &AnyMatroid,
+    away: &ElemSet,
+    _base: &ElemSet,
+    _chosen: &ElemSet,
+    joined: &ElemSet,
+    kept: &AnyKept,
+    x: u32,
+) -> Result<bool, AllocError>
+    requires sound { IsSound (tree_of inner.now) }
+    requires away { IsSet (element_count (tree_of inner.now)) away.now }
+    requires base { is_contracted (element_count (tree_of inner.now)) away.now (is_independent (tree_of inner.now)) _base.now ≡ true }
+    requires chosen { IsMaximal (is_independent (tree_of inner.now)) away.now _chosen.now }
+    requires joined { joined.now ≡ union _base.now _chosen.now }
+    requires kept { KeepsAny (tree_of inner.now) joined.now kept.now }
+    requires below { x < element_count (tree_of inner.now) }
+    requires outside { is_member x _base.now ≡ false }
+    ensures { IfOk result (λ added. added ≡ true
+        → (row_of (is_contracted (element_count (tree_of inner.now)) away.now (is_independent (tree_of inner.now))) _base.now x).addable ≡ true) }
+{
+    if away.contains(x) {
+        return Ok(false);
+    }
+    takes_at_once(alloc, inner, joined, kept, x)
 }
 
 /// The members of an independent set that stand in the fundamental circuit of an element x outside it, by what is kept of the set: all of the

@@ -17,7 +17,7 @@ returns-in-Some c =
     let laws = each_lawful ms c.requires.joined in
     let told = c.in_ok-part_that_takes.ensures in
     let placed = move_places laws c.requires.parts x c.in-Some.field-0 (ap (is_member x) c.requires.together ∙ c.requires.outside)
-        (subst (λ f. IfSome f (λ q. q < length parts)) c.in-Some.is told.below)
-        (subst (λ f. IfSome f (λ q. (exchanges_with (map test_in ms) parts q).adds x ≡ true)) c.in-Some.is told.takes) [] in
+    (subst (λ f. IfSome f (λ q. q < length parts)) c.in-Some.is told.below)
+    (subst (λ f. IfSome f (λ q. (exchanges_with (map test_in ms) parts q).adds x ≡ true)) c.in-Some.is told.takes) [] in
     λ _. rw c.requires.outside (subst (λ Y. union_in ms Y ≡ true) (placed.together ∙ ap (λ s. with_one s x) c.requires.together)
-        (parts_pass (map test_in ms) laws _ placed.are))
+    (parts_pass (map test_in ms) laws _ placed.are))
