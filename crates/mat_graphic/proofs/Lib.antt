@@ -10,3 +10,4 @@ pub mod Climbing
 pub mod EnteredTrails
 pub mod ForestSizes
 pub mod Roots
+pub mod HungTrees

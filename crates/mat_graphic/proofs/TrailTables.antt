@@ -1,13 +1,13 @@
 -- The tables of the search that roots the trees of a forest: the places of each vertex in a list, the ends of the members of a set, and the
 -- vertices found so far.
-use Rattle.std.proofs.Common.{is_some, ◌≡◌, ℕ, suc, ◌<◌, ◌≤◌, ◌≢◌, Bool, true, false, ltb, List, [], ◌∷◌, ◌++◌, length, get_or, set, Option, Some, None, ◌⊎◌, inl, inr, refl, sym, ap, ◌∙◌, subst, arith, get_or-set_other, get_or-set_same, length-set, length-append}
-use Rattle.std.proofs.lemmas.Bool.{cases_eq, cases_lt, eq-eqb, ne_eqb, lt-ltb, both_ways, false_from_ne_true, and_right}
+use Rattle.std.proofs.Common.{is_some, ◌≡◌, ℕ, suc, ◌<◌, ◌≤◌, ◌≢◌, Bool, true, false, ◌||◌, eqb, ltb, List, [], ◌∷◌, ◌++◌, length, get_or, set, Option, Some, None, ◌⊎◌, inl, inr, refl, sym, ap, ◌∙◌, subst, arith, get_or-set_other, get_or-set_same, length-set, length-append}
+use Rattle.std.proofs.lemmas.Bool.{cases_eq, cases_lt, eq-eqb, ne_eqb, lt-ltb, both_ways, false_from_ne_true, false≢true, and_right, or_cases, or_left, or_right}
 use Rattle.std.proofs.lemmas.List.{get_or_append_left, get_or_default}
 use Rattle.std.proofs.Math.Seq.{get_or-append_seam}
 use Rattle.mat_sets.specs.Sets.{is_member, AllBelow}
 use Rattle.mat_sets.specs.Search.{IsNextFrom}
 use Rattle.mat_sets.specs.Graphs.{Joins}
-use Rattle.mat_sets.proofs.Members.{is_member-get_or, place_of_member}
+use Rattle.mat_sets.proofs.Members.{is_member-append, is_member-get_or, place_of_member}
 use Rattle.mat_graphic.specs.Mergings.{least_merged}
 use Rattle.mat_graphic.specs.TrailSearches.{stands_at, ArePlaces, IsFindable, IsOrder, IsTree}
 
@@ -109,6 +109,16 @@ module _ (place : List (Option ℕ)) (order through before : List ℕ) (o : IsOr
   pub found_now : (v : ℕ) → is_member v (order ++ v ∷ []) ≡ true
   found_now v = is_member-get_or (order ++ v ∷ []) (length order) v (let long = length-append order (v ∷ []) in omega arith)
       (get_or-append_seam order v [] 0)
+
+  -- and nothing else
+  pub only_now : (v u : ℕ) → is_member v (order ++ u ∷ []) ≡ true → (eqb v u || is_member v order) ≡ true
+  only_now v u m = elim (or_cases (is_member v order) (is_member v (u ∷ [])) (sym (is_member-append v order (u ∷ [])) ∙ m)) [
+    | inl old ↦ or_right (eqb v u) (is_member v order) old
+    | inr new ↦ elim (or_cases (eqb v u) false new) [
+      | inl same ↦ or_left (eqb v u) (is_member v order) same
+      | inr none ↦ absurd (false≢true none)
+    ]
+  ]
 
   -- an item after a push
   pushed_at : (xs : List ℕ) (x k : ℕ) → length xs ≡ length order → k < length (order ++ x ∷ [])

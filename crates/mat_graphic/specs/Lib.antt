@@ -3,6 +3,7 @@ pub mod Mergings
 pub mod ParentTables
 pub mod TrailSearches
 pub mod RootedForests
+pub mod Hanging
 pub mod SearchLaws
 pub mod ComponentLaws
 pub mod ForestLaws

@@ -10,6 +10,7 @@ ghost use Rattle.mat_graphic.specs.{
   ParentTables.{IsDescending, IsParentTable},
 };
 
+use crate::hanging::{new_member, with_edge};
 use crate::rooted_forest::{RootedForest, are_joined, enter_trail, root_trees, trail};
 use crate::union_find::{settle, singletons, unite};
 use mat_laws::columns::{empty_columns, enter};
@@ -207,6 +208,26 @@ impl Matroid for Graphic {
     fn keep(&self, alloc: Global, base: &ElemSet) -> Result<RootedForest, AllocError> {
         self.lawful();
         root_trees(alloc, self.vertices, self.edges.as_slice(), base)
+    }
+
+    /// If the other forest has one edge more, the tree of one of its ends is hung below the other end; else the trees are rooted anew. The time is
+    /// linear in the numbers of vertices and of members. The only error is want of memory.
+    fn keep_next(
+        &self,
+        alloc: Global,
+        base: &ElemSet,
+        kept: &RootedForest,
+        next: &ElemSet,
+    ) -> Result<RootedForest, AllocError> {
+        self.lawful();
+        let Some(edge) = new_member(base.as_slice(), next.as_slice()) else {
+            return self.keep(alloc, next);
+        };
+        let (first, second) = self.edges.get(edge as usize);
+        match with_edge(alloc, kept, self.vertices, edge, first, second)? {
+            Some(forest) => Ok(forest),
+            None => self.keep(alloc, next),
+        }
     }
 
     /// The exchanges of an edge outside a forest: where its ends are in two trees it can be added, and exchanged for any

@@ -3,6 +3,7 @@
 
 mod components;
 mod graphic;
+mod hanging;
 pub mod laws;
 mod rooted_forest;
 mod union_find;

@@ -1,5 +1,5 @@
 //! Rooted forests, by breadth-first search, which asks each found vertex once for its edges, and the trails between their vertices.
-ghost use Rattle.std.specs.Prelude.{◌≡◌, ◌≢◌, ◌+◌, ◌<◌, ◌≤◌, ◌==◌, ℕ, List, length, slice_index, true, IfOk, IfSome, OnOk, MatchOption};
+ghost use Rattle.std.specs.Prelude.{◌≡◌, ◌≢◌, ◌+◌, ◌<◌, ◌≤◌, ◌==◌, ◌||◌, ℕ, List, [], length, slice_index, true, IfOk, IfSome, OnOk, MatchOption};
 ghost use Rattle.mat_sets.specs.{Graphs.{IsGraph, ends_of}, Sets.{AllBelow, IsRising, is_member, with_one}};
 ghost use Rattle.mat_graphic.specs.{
   Mergings.{least_merged},
@@ -61,15 +61,16 @@ fn ends_in(alloc: Global, edges: &[(u32, u32)], set: &[u32]) -> Result<Ends, All
 /// 0 for the edge, which says nothing.
 #[derive(Debug, Drop)]
 pub struct RootedForest {
-    place: Vec<Option<usize>>,
-    order: Vec<u32>,
-    through: Vec<u32>,
-    before: Vec<usize>,
+    pub(crate) place: Vec<Option<usize>>,
+    pub(crate) order: Vec<u32>,
+    pub(crate) through: Vec<u32>,
+    pub(crate) before: Vec<usize>,
 }
 
-// The search that has found no vertex, with room for all.
-fn begin(alloc: Global, vertices: u32) -> Result<RootedForest, AllocError>
+/// The search that has found no vertex, with room for all.
+pub(crate) fn begin(alloc: Global, vertices: u32) -> Result<RootedForest, AllocError>
     ensures long { IfOk result (λ f. length f.place.items ≡ vertices) }
+    ensures empty { IfOk result (λ f. f.order.items ≡ []) }
     ensures exploring { IfOk result (λ f. (firsts seconds set : List ℕ)
         → IsExploring firsts seconds set vertices (length f.order.items) f.place.items f.order.items f.through.items f.before.items) }
 {
@@ -85,15 +86,21 @@ fn begin(alloc: Global, vertices: u32) -> Result<RootedForest, AllocError>
     })
 }
 
-// Finds a vertex from the one at this place, through an edge, if it was not found before; from the place after the last
-// one it is found as a root.
-fn visit(forest: &mut RootedForest, vertex: u32, edge: u32, at: usize) -> Result<(), AllocError>
+/// Finds a vertex from the one at this place, through an edge, if it was not found before; from the place after the last
+/// one it is found as a root.
+pub(crate) fn visit(
+    forest: &mut RootedForest,
+    vertex: u32,
+    edge: u32,
+    at: usize,
+) -> Result<(), AllocError>
     requires order { IsOrder forest.old.place.items forest.old.order.items forest.old.through.items forest.old.before.items }
     requires below { vertex < length forest.old.place.items }
     requires inside { at ≤ length forest.old.order.items }
     ensures long { OnOk result (length forest.new.place.items ≡ length forest.old.place.items) }
     ensures order { OnOk result (IsOrder forest.new.place.items forest.new.order.items forest.new.through.items forest.new.before.items) }
     ensures found { OnOk result (is_member vertex forest.new.order.items ≡ true) }
+    ensures only { OnOk result ((v : ℕ) → is_member v forest.new.order.items ≡ true → (v == vertex || is_member v forest.old.order.items) ≡ true) }
     ensures front { OnOk result (IsFront forest.old.order.items forest.new.order.items) }
     ensures tree { OnOk result ((ends : ℕ → ℕ × ℕ) (X : List ℕ) → IsFindable ends X forest.old.order.items vertex edge at
         → IsTree ends X forest.old.order.items forest.old.through.items forest.old.before.items
@@ -334,8 +341,8 @@ fn enter_climb(
     Ok(true)
 }
 
-// The place of a vertex that was found.
-fn place_of(forest: &RootedForest, vertex: u32) -> usize
+/// The place of a vertex that was found.
+pub(crate) fn place_of(forest: &RootedForest, vertex: u32) -> usize
     requires order { IsOrder forest.now.place.items forest.now.order.items forest.now.through.items forest.now.before.items }
     requires found { is_member vertex forest.now.order.items ≡ true }
     ensures inside { result < length forest.now.order.items }
@@ -399,8 +406,8 @@ pub(crate) fn enter_trail(
     )
 }
 
-// The place of the root of the tree in which a place lies.
-fn root_above(forest: &RootedForest, place: usize) -> usize
+/// The place of the root of the tree in which a place lies.
+pub(crate) fn root_above(forest: &RootedForest, place: usize) -> usize
     requires order { IsOrder forest.now.place.items forest.now.order.items forest.now.through.items forest.now.before.items }
     requires place { place < length forest.now.order.items }
     ensures inside { result < length forest.now.order.items }
