@@ -1,8 +1,8 @@
 -- Elements come among the spanned ones, and a loop takes them out of the unspanned ones.
-use Rattle.std.proofs.Common.{◌≡◌, ℕ, ◌+◌, ◌<◌, Bool, true, false, not, ◌||◌, ◌&&◌, eqb, List, [], length, get_or, take, refl, sym, ap, ◌∙◌}
+use Rattle.std.proofs.Common.{◌≡◌, ℕ, ◌+◌, ◌<◌, ◌≤◌, arith, Bool, true, false, not, ◌||◌, ◌&&◌, eqb, List, [], ◌∷◌, length, get_or, take, refl, sym, ap, ◌∙◌}
 use Rattle.std.proofs.lemmas.Bool.{false≢true}
-use Rattle.mat_sets.specs.Sets.{is_member, minus, union, without_one, IsRising, IsSubset}
-use Rattle.mat_sets.proofs.Members.{is_member-minus, is_member-union, is_member-without_one, same_members, IsRising-minus}
+use Rattle.mat_sets.specs.Sets.{is_member, minus, union, with_one, without_one, IsRising, IsSubset}
+use Rattle.mat_sets.proofs.Members.{is_member-minus, is_member-union, is_member-with_one, is_member-without_one, same_members, IsRising-minus}
 use Rattle.mat_sets.proofs.Steps.{is_member-take_more}
 use Rattle.mat_sets.proofs.Truths.{and_neither}
 
@@ -19,6 +19,37 @@ spanned_with spanned elements more all m a v =
     no_more : (b : Bool) → (b || false) ≡ b
     no_more true = refl
     no_more false = refl
+
+only_item : (xs : List ℕ) → 1 ≤ length xs → length xs < 2 → xs ≡ get_or xs 0 0 ∷ []
+only_item [] some few = absurd (omega arith)
+only_item (x ∷ []) some few = refl
+only_item (x ∷ y ∷ xs) some few = absurd (omega arith)
+
+-- one element alone
+pub spanned_with_one : (spanned all elements : List ℕ) → 1 ≤ length elements → length elements < 2 → all ≡ with_one spanned (get_or elements 0 0)
+    → (v : ℕ) → is_member v all ≡ (is_member v spanned || is_member v elements)
+spanned_with_one spanned all elements some few a v =
+    let x = get_or elements 0 0 in
+    ap (is_member v) a ∙ is_member-with_one v x spanned ∙ swapped (eqb v x) (is_member v spanned)
+    ∙ ap (λ s. is_member v spanned || is_member v s) (sym (only_item elements some few))
+  where
+    swapped : (a b : Bool) → (a || b) ≡ (b || (a || false))
+    swapped true true = refl
+    swapped true false = refl
+    swapped false true = refl
+    swapped false false = refl
+
+pub unspanned_without_one : (unspanned left elements : List ℕ) → 1 ≤ length elements → length elements < 2
+    → left ≡ without_one unspanned (get_or elements 0 0)
+    → (v : ℕ) → is_member v left ≡ (is_member v unspanned && not (is_member v elements))
+unspanned_without_one unspanned left elements some few l v =
+    let x = get_or elements 0 0 in
+    ap (is_member v) l ∙ is_member-without_one v x unspanned ∙ ap (λ b. is_member v unspanned && not b) (alone (eqb v x))
+    ∙ ap (λ s. is_member v unspanned && not (is_member v s)) (sym (only_item elements some few))
+  where
+    alone : (a : Bool) → a ≡ (a || false)
+    alone true = refl
+    alone false = refl
 
 pub unspanned_more : (set set' xs : List ℕ) (i : ℕ) (start : List ℕ) → i < length xs → set' ≡ without_one set (get_or xs i 0)
     → ((v : ℕ) → is_member v set ≡ (is_member v start && not (is_member v (take i xs)))) → (v : ℕ) → is_member v set' ≡ (is_member v start && not (is_member v (take (i + 1) xs)))

@@ -317,6 +317,12 @@ pub fn mark_spanned(
     ensures spanned_err { OnErr result (spanned.new ≡ spanned.old) }
     ensures unspanned_err { OnErr result (unspanned.new ≡ unspanned.old) }
 {
+    // Most searches reach one element alone.
+    if let [only] = elements {
+        spanned.add(*only)?;
+        unspanned.remove(*only);
+        return Ok(());
+    }
     spanned.rises();
     let more = ElemSet::from_members(alloc, elements)?;
     *spanned = spanned.union(alloc, &more)?;
