@@ -334,7 +334,7 @@ pub(crate) fn keep(
     }
 }
 
-/// What is kept of another independent set, where something is kept of this one. A transversal matroid and a gammoid make it from that, and a
+/// What is kept of another independent set, where something is kept of this one. A graphic or transversal matroid and a gammoid make it from that, and a
 /// truncation, a restriction or the dual of a dual asks the matroid within it; each other kind makes it anew. The only error is want of memory.
 #[cycle(running)]
 pub(crate) fn keep_next(
@@ -356,6 +356,9 @@ pub(crate) fn keep_next(
         ),
         (AnyMatroid::Gammoid(gammoid), AnyKept::Gammoid(linking)) => Ok(AnyKept::Gammoid(
             gammoid.keep_next(alloc, base, linking, next)?,
+        )),
+        (AnyMatroid::Graphic(graphic), AnyKept::Graphic(forest)) => Ok(AnyKept::Graphic(
+            graphic.keep_next(alloc, base, forest, next)?,
         )),
         (AnyMatroid::Dual(inner), AnyKept::DualOfDual(within)) => {
             dual_of_dual_next(alloc, inner, base, within, next)
