@@ -1,6 +1,6 @@
 -- The algorithm's own notions, by which its private functions are told: a rooted forest that gets one edge more, below one end of which the tree of
 -- the other end is hung.
-use Rattle.std.specs.Prelude.{◌≡◌, ℕ, ◌<◌, Bool, true, false, ◌==◌, ◌||◌, if◌then◌else◌, List, length, slice_index, slice_index_or}
+use Rattle.std.specs.Prelude.{◌≡◌, ℕ, ◌<◌, Bool, true, false, ◌==◌, ◌||◌, List, length, slice_index, slice_index_or}
 use Rattle.mat_sets.specs.Graphs.{Joins}
 use Rattle.mat_sets.specs.Sets.{is_member}
 use Rattle.mat_graphic.specs.Mergings.{least_merged}

@@ -1,5 +1,5 @@
 //! A rooted forest with one edge more: the tree of one end of the edge is hung below the other end.
-ghost use Rattle.std.specs.Prelude.{◌≡◌, ◌≢◌, ◌<◌, ◌==◌, ◌||◌, ℕ, List, [], length, slice_index, slice_index_or, true, false, IfOk, IfSome, OnOk};
+ghost use Rattle.std.specs.Prelude.{◌≡◌, ◌<◌, ◌==◌, ◌||◌, ℕ, List, [], length, slice_index, true, IfOk, IfSome, OnOk};
 ghost use Rattle.mat_sets.specs.Sets.{is_member};
 ghost use Rattle.mat_graphic.specs.{
   Hanging.{AreFlags, IsCopied, IsHung, IsNewEdge, IsTurned},

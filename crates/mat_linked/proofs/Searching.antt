@@ -2,7 +2,6 @@
 -- reached in vain is left alone by later walks, and is never reached again.
 use Rattle.std.proofs.Common.{arith, ◌≡◌, ℕ, ◌<◌, ◌^◌, Bool, true, false, not, ◌&&◌, List, length, is_none, is_some, Option, Some, None, refl, sym, ap, ◌∙◌, subst}
 use Rattle.std.proofs.lemmas.Bool.{and_from, and_parts, both_ways, false_from_ne_true}
-use Rattle.std.specs.Global.{Vec}
 use Rattle.std.specs.List.{All}
 use Rattle.mat_sets.specs.Sets.{all_below, intersection, is_member, with_one, AllBelow}
 use Rattle.mat_sets.specs.Rows.{row_at}
@@ -10,7 +9,7 @@ use Rattle.mat_sets.specs.Search.{IsNextFrom}
 use Rattle.mat_sets.proofs.Reach.{reached_set_exists, walk_differs}
 use Rattle.mat_sets.proofs.Truths.{same_truth}
 use Rattle.mat_flow.specs.LinkTables.{entry_at, IsShifted}
-use Rattle.mat_flow.specs.Seeking.{live_in, IsFreeWalk, IsRoom, IsShut, IsSought, IsSpent}
+use Rattle.mat_flow.specs.Seeking.{live_in, IsFreeWalk, IsRoom, IsShut, IsSpent}
 use Rattle.mat_flow.specs.declared.seeking.SearchRoom.{SearchRoom}
 use Rattle.mat_flow.proofs.FirstGoals.{shut_misses, spent_reaches, IsShut-all, IsShut-moved, IsShut-spent}
 use Rattle.mat_flow.proofs.Frontiers.{is_before_gives}

@@ -1,4 +1,4 @@
-use Rattle.std.proofs.Common.{◌≡◌, ◌<◌, false, length, get_or, sym, ap, ◌∙◌, arith}
+use Rattle.std.proofs.Common.{◌<◌, false, length, get_or, sym, ap, ◌∙◌, arith}
 use Rattle.mat_sets.proofs.Sums.{AllBelow-at}
 use Rattle.mat_graphic.proofs.HungTrees.{child_findable, root_findable, IsCopied-passed, IsCopied-visited}
 use Rattle.mat_graphic.proofs.TrailScans.{item_of}

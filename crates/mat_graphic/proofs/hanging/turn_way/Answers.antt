@@ -1,4 +1,4 @@
-use Rattle.std.proofs.Common.{◌≡◌, ◌<◌, length, get_or, sym, subst, ◌∙◌, arith}
+use Rattle.std.proofs.Common.{◌<◌, length, get_or, sym, subst, arith}
 use Rattle.mat_sets.proofs.Sums.{AllBelow-at}
 use Rattle.mat_graphic.proofs.HungTrees.{IsTurned-end, IsTurning, IsTurning-more}
 use Rattle.mat_graphic.proofs.TrailScans.{item_of}
