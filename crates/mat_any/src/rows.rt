@@ -160,6 +160,18 @@ pub(crate) fn columns(
     }
 }
 
+// Whether a matroid is made of others, so that `adds` makes a row.
+fn is_made_of_others(matroid: &AnyMatroid) -> bool {
+    matches!(
+        matroid,
+        AnyMatroid::Dual(_)
+            | AnyMatroid::Truncate { .. }
+            | AnyMatroid::Restrict { .. }
+            | AnyMatroid::Contract { .. }
+            | AnyMatroid::Union { .. }
+    )
+}
+
 // Whether x, outside a set, can be added to one of the parts of the set as they stand, and so to the set in the union.
 fn union_takes_at_once(
     alloc: Global,
@@ -362,7 +374,11 @@ pub(crate) fn circuit_members(
     requires outside { is_member x base.now ≡ false }
     ensures { IfOk result (λ members. members ≡ circuit_members (row_of (is_independent (tree_of matroid.now)) base.now x)) }
 {
-    if takes_at_once(alloc, matroid, base, kept, x)? {
+    if is_made_of_others(matroid) {
+        if takes_at_once(alloc, matroid, base, kept, x)? {
+            return Ok(None);
+        }
+    } else if adds(alloc, matroid, base, kept, x)? {
         return Ok(None);
     }
     let exchange = row(alloc, matroid, base, kept, x)?;
