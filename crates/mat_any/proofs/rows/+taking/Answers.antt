@@ -1,6 +1,6 @@
 -- Each matroid that is made of one other takes an element that this one takes, by the law about rows that its minor or dual obeys; a union is
 -- asked for its parts.
-use Rattle.std.proofs.Common.{◌≡◌, ◌<◌, ◌&&◌, List, Bool, true, length, ltb, refl, subst, sym, ap, ◌∙◌, rules, arith}
+use Rattle.std.proofs.Common.{◌≡◌, ◌<◌, ◌&&◌, Bool, true, length, ltb, refl, subst, sym, ap, ◌∙◌, rules, arith}
 use Rattle.std.proofs.lemmas.Bool.{and_from, lt-ltb}
 use Rattle.std.proofs.lemmas.Result.{IfOk-weaker}
 use Rattle.mat_sets.specs.Sets.{is_member, minus, union}
