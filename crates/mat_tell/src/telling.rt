@@ -29,7 +29,6 @@ fn tell_weighted(
     answer: &Answer,
 ) -> Result<(), AllocError>
     requires valid { IsValid (instance_of problem.now) }
-    requires sound { IsSoundInstance (instance_of problem.now) }
     requires ranged { IsRanged (certificate_of answer.now) }
     requires right { IsRight (instance_of problem.now) (certificate_of answer.now) }
 {
@@ -77,7 +76,6 @@ fn tell_drawn(
     answer: &Answer,
 ) -> Result<(), AllocError>
     requires valid { IsValid (instance_of problem.now) }
-    requires sound { IsSoundInstance (instance_of problem.now) }
     requires ranged { IsRanged (certificate_of answer.now) }
     requires right { IsRight (instance_of problem.now) (certificate_of answer.now) }
 {
@@ -154,7 +152,6 @@ fn called_in(named: &Named) -> Called<'_>
 /// memory.
 pub fn told_text(alloc: Global, named: &Named, answer: &Answer) -> Result<Text, AllocError>
     requires valid { IsValid (instance_of named.now.problem) }
-    requires sound { IsSoundInstance (instance_of named.now.problem) }
     requires ranged { IsRanged (certificate_of answer.now) }
     requires right { IsRight (instance_of named.now.problem) (certificate_of answer.now) }
 
@@ -171,7 +168,6 @@ pub fn told_text(alloc: Global, named: &Named, answer: &Answer) -> Result<Text, 
 /// are, is tested. The only error is want of memory.
 pub fn told(alloc: Global, named: &Named, answer: &Answer) -> Result<Vec<u8>, AllocError>
     requires valid { IsValid (instance_of named.now.problem) }
-    requires sound { IsSoundInstance (instance_of named.now.problem) }
     requires ranged { IsRanged (certificate_of answer.now) }
     requires right { IsRight (instance_of named.now.problem) (certificate_of answer.now) }
 
