@@ -31,7 +31,7 @@ pub(crate) fn tell_pair(
 {
     match answer {
         Answer::Intersect { rungs, cut, .. } => tell_intersection(text, called, both, rungs, cut),
-        _ => Ok(()),
+        _ => unreachable!(),
     }
 }
 
@@ -53,7 +53,7 @@ fn tell_single(
         Answer::Pack { bases, cut, .. } => tell_bases(text, called, matroid, bases, cut),
         Answer::CoverNever { loop_at, .. } => tell_never(text, called, matroid, *loop_at),
         Answer::Cover { sets, cut, .. } => tell_cover(text, called, matroid, sets, cut),
-        _ => Ok(()),
+        _ => unreachable!(),
     }
 }
 
@@ -78,7 +78,7 @@ pub(crate) fn tell_list(
         } => tell_union(text, called, rules, *weight, parts.as_slice(), levels),
         _ => match rules.matroids {
             [matroid] => tell_single(text, called, rules.weights, matroid, answer),
-            _ => Ok(()),
+            _ => unreachable!(),
         },
     }
 }
