@@ -1,7 +1,7 @@
 -- No better answer exists than a right one: form by form.
 use Rattle.mat_problem.specs.Validity.{IsValid}
 use Rattle.mat_problem.specs.Instances.{Instance}
-use Rattle.mat_problem.specs.Soundness.{IsSoundInstance}
+use Rattle.mat_problem.proofs.SoundProblems.{IsSoundInstance-valid}
 use Rattle.mat_cert.specs.Certificates.{Certificate}
 use Rattle.mat_right.specs.Right.{IsRight}
 use Rattle.mat_check.specs.Optimal.{IsOptimal}
@@ -30,6 +30,7 @@ on_each_form = record {
   assignment = right_assignment_is_optimal;
 }
 
-pub right_is_optimal : (instance : Instance) (answer : Certificate) → IsValid instance → IsSoundInstance instance → IsRight instance answer
+pub right_is_optimal : (instance : Instance) (answer : Certificate) → IsValid instance → IsRight instance answer
     → IsOptimal instance answer
-right_is_optimal instance answer valid sound right = by_right RightIsOptimal on_each_form instance answer right valid sound right
+right_is_optimal instance answer valid right =
+    by_right RightIsOptimal on_each_form instance answer right valid (IsSoundInstance-valid instance valid) right

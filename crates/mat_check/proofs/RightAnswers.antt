@@ -2,7 +2,7 @@
 use Rattle.std.proofs.Common.{◌≡◌, ◌↔◌, true, None}
 use Rattle.mat_problem.specs.Validity.{IsValid}
 use Rattle.mat_problem.specs.Instances.{Instance}
-use Rattle.mat_problem.specs.Soundness.{IsSoundInstance}
+use Rattle.mat_problem.proofs.SoundProblems.{IsSoundInstance-valid}
 use Rattle.mat_cert.specs.Certificates.{Certificate, IsRanged}
 use Rattle.mat_right.specs.Right.{IsRight}
 use Rattle.mat_check.specs.AnswerClauses.{failure_of}
@@ -32,7 +32,7 @@ on_each_form = record {
   assignment = right_assignment_has_no_failure;
 }
 
-pub right_has_no_failure : (instance : Instance) (answer : Certificate) → IsValid instance → IsSoundInstance instance → IsRanged answer
+pub right_has_no_failure : (instance : Instance) (answer : Certificate) → IsValid instance → IsRanged answer
     → fits instance answer ≡ true → IsRight instance answer ↔ (failure_of instance answer ≡ None)
-right_has_no_failure instance answer valid sound ranged fitting =
-    by_fitting RightHasNoFailure on_each_form answer instance fitting valid sound ranged
+right_has_no_failure instance answer valid ranged fitting =
+    by_fitting RightHasNoFailure on_each_form answer instance fitting valid (IsSoundInstance-valid instance valid) ranged

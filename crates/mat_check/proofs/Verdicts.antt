@@ -3,7 +3,6 @@ use Rattle.std.proofs.Common.{◌≡◌, ◌↔◌, true, refl, sym, ap, ◌∙�
 use Rattle.std.proofs.lemmas.Option.{none-some}
 use Rattle.mat_problem.specs.Validity.{IsValid}
 use Rattle.mat_problem.specs.Instances.{Instance}
-use Rattle.mat_problem.specs.Soundness.{IsSoundInstance}
 use Rattle.mat_cert.specs.Certificates.{Certificate, IsRanged}
 use Rattle.mat_right.specs.Right.{IsRight}
 use Rattle.mat_check.specs.AnswerClauses.{failure_of}
@@ -14,11 +13,11 @@ use Rattle.mat_check.specs.declared.verdict.Verdict.{Verdict}
 use Rattle.mat_check.specs.declared.verdict.Verdict.TheVariants.{Yes, No}
 use Rattle.mat_check.proofs.RightAnswers.{right_has_no_failure}
 
-module _ (instance : Instance) (answer : Certificate) (valid : IsValid instance) (sound : IsSoundInstance instance) (ranged : IsRanged answer)
+module _ (instance : Instance) (answer : Certificate) (valid : IsValid instance) (ranged : IsRanged answer)
     (fitting : fits instance answer ≡ true) where
   pub yes_where_right : (v : Verdict) → failure_in v ≡ failure_of instance answer → (v ≡ Yes) ↔ IsRight instance answer
-  yes_where_right Yes told = (λ e. (right_has_no_failure instance answer valid sound ranged fitting).1 (sym told), λ right. refl)
+  yes_where_right Yes told = (λ e. (right_has_no_failure instance answer valid ranged fitting).1 (sym told), λ right. refl)
   yes_where_right (No reason a b) told = (
     λ e. absurd (none-some (failure_at reason a b) (sym (ap failure_in e))),
-    λ right. absurd (none-some (failure_at reason a b) (sym ((right_has_no_failure instance answer valid sound ranged fitting).0 right) ∙ sym told)),
+    λ right. absurd (none-some (failure_at reason a b) (sym ((right_has_no_failure instance answer valid ranged fitting).0 right) ∙ sym told)),
   )

@@ -102,7 +102,6 @@ pub fn check<R: CheckWorkers>(
     requires shared { R.shared rt.now }
     requires fits { fits (instance_of problem.now) (certificate_of answer.now) ≡ true }
     requires valid { IsValid (instance_of problem.now) }
-    requires sound { IsSoundInstance (instance_of problem.now) }
     requires ranged { IsRanged (certificate_of answer.now) }
     requires workers { AreWorkers workers }
     ensures failure { IfOk result (λ v. failure_in v ≡ failure_of (instance_of problem.now) (certificate_of answer.now)) }

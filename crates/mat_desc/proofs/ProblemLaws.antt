@@ -12,8 +12,6 @@ use Rattle.mat_problem.specs.Instances.{Instance}
 use Rattle.mat_desc.specs.Notations.{Notation, numbers, names, IsNaming, IsNotationFor, NamedInstance, named_by, numbered}
 use Rattle.mat_desc.specs.Notations.{count_of_elements, count_of_vertices}
 use Rattle.mat_desc.specs.Reading.{WrittenInstance, written_of, read_of, named_of}
-use Rattle.mat_problem.specs.Soundness.{IsSoundInstance}
-use Rattle.mat_problem.proofs.SoundProblems.{IsSoundInstance-valid}
 use Rattle.mat_desc.proofs.NumberedNames.{AreNames-numbered, length-numbered}
 use Rattle.mat_desc.proofs.InstanceLaws.{description_found, read_found, read_again, named_found, named_again}
 use Rattle.mat_desc.proofs.NamedCounts.{few_elements, few_vertices}
@@ -44,11 +42,6 @@ pub gives_valid : {X : Type 0} (view : X → Instance) (text : List ℕ) (result
     → IfOk result (λ x. IsValid (view x))
 gives_valid view text (Ok x) gives = (read_found text (view x) gives).valid
 gives_valid view text (Err refusal) gives = tt
-
-pub gives_sound : {X : Type 0} (view : X → Instance) (text : List ℕ) (result : Result X DescRefusal) → Gives view result (read_of text)
-    → IfOk result (λ x. IsSoundInstance (view x))
-gives_sound view text (Ok x) gives = IsSoundInstance-valid (view x) (read_found text (view x) gives).valid
-gives_sound view text (Err refusal) gives = tt
 
 -- ---- with names
 
@@ -87,11 +80,6 @@ pub named_gives_valid : {X : Type 0} (view : X → NamedInstance) (text : List �
     → Gives view result (named_of text) → IfOk result (λ x. IsValid (view x).instance)
 named_gives_valid view text (Ok x) gives = (named_found text (view x) gives).spells.valid
 named_gives_valid view text (Err refusal) gives = tt
-
-pub named_gives_sound : {X : Type 0} (view : X → NamedInstance) (text : List ℕ) (result : Result X DescRefusal)
-    → Gives view result (named_of text) → IfOk result (λ x. IsSoundInstance (view x).instance)
-named_gives_sound view text (Ok x) gives = IsSoundInstance-valid (view x).instance (named_found text (view x) gives).spells.valid
-named_gives_sound view text (Err refusal) gives = tt
 
 pub named_gives_notated : {X : Type 0} (view : X → NamedInstance) (text : List ℕ) (result : Result X DescRefusal)
     → Gives view result (named_of text)

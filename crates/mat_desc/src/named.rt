@@ -1,7 +1,7 @@
 //! Problems with names for their elements and their vertices.
 
 ghost use Rattle.std.specs.Prelude.{◌≡◌, ◌<◌, ◌≤◌, ◌^◌, true, [], ◌∷◌, length, IfOk};
-ghost use Rattle.mat_problem.specs.{Validity.{IsValid}, Soundness.{IsSoundInstance}, Views.{instance_of}};
+ghost use Rattle.mat_problem.specs.{Validity.{IsValid}, Views.{instance_of}};
 ghost use Rattle.mat_desc.specs.{
   Grammar.{SpellsNamed},
   Limits.{description_limit},
@@ -123,9 +123,8 @@ pub fn read_named(alloc: Global, text: &[u8]) -> Result<Named, DescRefusal>
     ensures found { IfOk result (λ named. SpellsNamed text.now (named_instance named)) }
     ensures only { (named : NamedInstance) → SpellsNamed text.now named → Gives named_instance result (Ok named) }
 
-    // The problem is in range, its matroids are sound, and it has a name for each element and each vertex.
+    // The problem is in range, and so its matroids are sound, and it has a name for each element and each vertex.
     ensures valid { IfOk result (λ named. IsValid (instance_of named.problem)) }
-    ensures sound { IfOk result (λ named. IsSoundInstance (instance_of named.problem)) }
     ensures notated { IfOk result (λ named. IsNotationFor (instance_of named.problem) (names (names_of named.elements) (names_of named.vertices))) }
 {
     named_problem(alloc, text)

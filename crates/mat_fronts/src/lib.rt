@@ -2,10 +2,12 @@
 #![tactic(auto)]
 
 mod assignment;
+mod colours;
 pub mod laws;
 mod rainbow_ladder;
 mod rainbow_search;
 
 pub use assignment::assign;
+pub use colours::edges_without;
 pub use rainbow_ladder::RainbowLadder;
 pub use rainbow_search::rainbow;

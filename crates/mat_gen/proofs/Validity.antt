@@ -18,9 +18,7 @@ use Rattle.mat_any.specs.Trees.{Tree, graphic, partition}
 use Rattle.mat_problem.specs.Instances.{Instance}
 use Rattle.mat_sets.specs.Limits.{largest_weight, most_elements}
 use Rattle.mat_problem.specs.Validity.{AreClasses, IsPairBelow, IsValidMatroid, IsWeight, IsValid}
-use Rattle.mat_problem.specs.Soundness.{IsSoundInstance}
 use Rattle.mat_problem.proofs.SoundProblems.{IsGraph-pairs}
-use Rattle.mat_problem.proofs.SoundProblems.{IsSoundInstance-valid}
 use Rattle.mat_gen.specs.Draws.{state_after, draw}
 use Rattle.mat_gen.specs.Samples.{class_drawn, pair_drawn, pairs_drawn, sample_of, weight_from, weights_from}
 use Rattle.mat_gen.specs.declared.kind.SampleKind.{SampleKind}
@@ -174,10 +172,3 @@ pub answer_valid : {X E : Type 0} (view : X → Instance) (kind : SampleKind) (n
     → IfOk result (λ x. view x ≡ sample_of kind n seed) → IfOk result (λ x. IsValid (view x))
 answer_valid view kind n seed few (Ok x) is = subst IsValid (sym is) (sample_valid kind n seed few)
 answer_valid view kind n seed few (Err e) is = tt
-
--- and so its matroids are sound
-pub answer_sound : {X E : Type 0} (view : X → Instance) (kind : SampleKind) (n seed : ℕ) → n ≤ most_elements → (result : Result X E)
-    → IfOk result (λ x. view x ≡ sample_of kind n seed) → IfOk result (λ x. IsSoundInstance (view x))
-answer_sound view kind n seed few (Ok x) is =
-    IsSoundInstance-valid (view x) (subst IsValid (sym is) (sample_valid kind n seed few))
-answer_sound view kind n seed few (Err e) is = tt

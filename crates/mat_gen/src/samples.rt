@@ -3,7 +3,7 @@
 ghost use Rattle.std.specs.Prelude.{◌≡◌, ◌<◌, ◌≤◌, ◌∷◌, [], map, IfOk};
 ghost use Rattle.mat_sets.specs.{Limits.{most_elements}, Graphs.{IsGraph}};
 ghost use Rattle.mat_any.specs.{Trees.{graphic}, Views.{tree_of}};
-ghost use Rattle.mat_problem.specs.{Validity.{IsValid}, Soundness.{IsSoundInstance}, Views.{instance_of}};
+ghost use Rattle.mat_problem.specs.{Validity.{IsValid}, Views.{instance_of}};
 ghost use Rattle.mat_gen.specs.Samples.{sample_of};
 ghost use Rattle.mat_gen.specs.declared.kind.SampleKind.TheVariants as kinds;
 
@@ -144,9 +144,8 @@ pub fn sample(alloc: Global, kind: SampleKind, size: u32, seed: u64) -> Result<P
     // The problem is the one that the draws from the seed make.
     ensures problem { IfOk result (λ p. instance_of p ≡ sample_of kind size seed) }
 
-    // It is in range, and its matroids are sound and on the elements that the weights are of.
+    // It is in range, and so its matroids are sound and on the elements that the weights are of.
     ensures valid { IfOk result (λ p. IsValid (instance_of p)) }
-    ensures sound { IfOk result (λ p. IsSoundInstance (instance_of p)) }
 {
     drawn(alloc, kind, size, seed)
 }

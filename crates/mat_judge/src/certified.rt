@@ -4,7 +4,7 @@ ghost use Rattle.std.specs.Prelude.{◌≡◌, ◌≤◌, ℕ, List, true, OnOk,
 ghost use Rattle.mat_work.specs.Workers.{AreWorkers};
 ghost use Rattle.mat_cert.specs.{Certificates.{IsRanged}, Views.{certificate_of}};
 ghost use Rattle.mat_check.specs.Fitting.{fits};
-ghost use Rattle.mat_problem.specs.{Validity.{IsValid}, Soundness.{IsSoundInstance}, Views.{instance_of}};
+ghost use Rattle.mat_problem.specs.{Validity.{IsValid}, Views.{instance_of}};
 ghost use Rattle.mat_right.specs.Right.{IsRight};
 ghost use Rattle.mat_judge.specs.declared.certified.Uncertified.TheVariants as uncertified;
 ghost use Rattle.mat_judge.specs.declared.certified.NotRight.TheVariants as not_right;
@@ -109,7 +109,6 @@ fn judge_answer<R: CheckWorkers>(
 ) -> Result<(), NotRight>
     requires shared { R.shared rt.now }
     requires valid { IsValid (instance_of problem.now) }
-    requires sound { IsSoundInstance (instance_of problem.now) }
     requires ranged { IsRanged (certificate_of answer.now) }
     requires workers { AreWorkers workers }
     ensures fitting { OnOk result (fits (instance_of problem.now) (certificate_of answer.now) ≡ true) }
@@ -138,7 +137,6 @@ pub fn right_answer_in<R: CheckWorkers, F: Shelf>(
     // Other threads may be handed a reference to who works, which is so of every runtime and of a worker that starts no thread.
     requires shared { R.shared rt.now }
     requires valid { IsValid (instance_of problem.now) }
-    requires sound { IsSoundInstance (instance_of problem.now) }
     requires workers { AreWorkers workers }
     ensures held { (other : List ℕ) → F.held files.new other ≡ F.held files.old other }
     ensures grows { (other : List ℕ) → F.faults files.old other ≤ F.faults files.new other }
@@ -166,7 +164,6 @@ pub fn judge<R: CheckWorkers, F: Shelf>(
     // Other threads may be handed a reference to who works, which is so of every runtime and of a worker that starts no thread.
     requires shared { R.shared rt.now }
     requires valid { IsValid (instance_of problem.now) }
-    requires sound { IsSoundInstance (instance_of problem.now) }
     requires workers { AreWorkers workers }
     ensures held { (other : List ℕ) → F.held files.new other ≡ F.held files.old other }
     ensures grows { (other : List ℕ) → F.faults files.old other ≤ F.faults files.new other }

@@ -1,7 +1,7 @@
 //! The problem that a file describes.
 
 ghost use Rattle.std.specs.Prelude.{◌≡◌, ◌≤◌, ℕ, List, IfOk, IfErr, IfSome};
-ghost use Rattle.mat_problem.specs.{Validity.{IsValid}, Soundness.{IsSoundInstance}, Views.{instance_of}};
+ghost use Rattle.mat_problem.specs.{Validity.{IsValid}, Views.{instance_of}};
 ghost use Rattle.mat_desc.specs.{Notations.{IsNotationFor, names}, Views.{named_instance}};
 ghost use Rattle.mat_words.specs.NameLists.{names_of};
 ghost use Rattle.mat_judge.specs.declared.described.Undescribed.TheVariants as undescribed;
@@ -57,7 +57,6 @@ pub fn problem_in<F: Shelf>(
     ensures held { (other : List ℕ) → F.held files.new other ≡ F.held files.old other }
     ensures grows { (other : List ℕ) → F.faults files.old other ≤ F.faults files.new other }
     ensures valid { IfOk result (λ p. IsValid (instance_of p)) }
-    ensures sound { IfOk result (λ p. IsSoundInstance (instance_of p)) }
     ensures described { IfOk result (λ p. IfSome (F.held files.old name.now) (λ bytes. IsDescribed bytes (instance_of p))) }
     ensures refusal { IfErr result (λ e. IsUndescribed (F.held files.old name.now)
         (F.faults files.old name.now) (F.faults files.new name.now) e) }
@@ -71,7 +70,6 @@ pub fn named_in<F: Shelf>(alloc: Global, files: &mut F, name: &str) -> Result<Na
     ensures held { (other : List ℕ) → F.held files.new other ≡ F.held files.old other }
     ensures grows { (other : List ℕ) → F.faults files.old other ≤ F.faults files.new other }
     ensures valid { IfOk result (λ n. IsValid (instance_of n.problem)) }
-    ensures sound { IfOk result (λ n. IsSoundInstance (instance_of n.problem)) }
     ensures notated { IfOk result (λ n. IsNotationFor (instance_of n.problem) (names (names_of n.elements) (names_of n.vertices))) }
     ensures named { IfOk result (λ n. IfSome (F.held files.old name.now) (λ bytes. IsNamed bytes (named_instance n))) }
     ensures refusal { IfErr result (λ e. IsUndescribed (F.held files.old name.now)

@@ -2,7 +2,7 @@
 
 ghost use Rattle.std.specs.Prelude.{◌<◌, ◌^◌, length, IfOk};
 ghost use Rattle.mat_cert.specs.{Certificates.{IsRanged}, Views.{certificate_of}};
-ghost use Rattle.mat_problem.specs.{Validity.{IsValid}, Soundness.{IsSoundInstance}, Views.{instance_of}};
+ghost use Rattle.mat_problem.specs.{Validity.{IsValid}, Views.{instance_of}};
 ghost use Rattle.mat_drawing.specs.Markup.{IsPicture};
 ghost use Rattle.mat_right.specs.Right.{IsRight};
 ghost use Rattle.mat_text.specs.Texts.{IsPrintable};
@@ -148,7 +148,6 @@ pub fn picture(
     told: &Text,
 ) -> Result<Vec<u8>, AllocError>
     requires valid { IsValid (instance_of named.now.problem) }
-    requires sound { IsSoundInstance (instance_of named.now.problem) }
     requires ranged { IsRanged (certificate_of answer.now) }
     requires right { IsRight (instance_of named.now.problem) (certificate_of answer.now) }
 

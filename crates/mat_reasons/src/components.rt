@@ -4,24 +4,10 @@ ghost use Rattle.std.specs.Prelude.{◌≡◌, ◌<◌, ◌^◌, not, length, sl
 ghost use Rattle.mat_sets.specs.{Graphs.{IsGraph, ends_of}, Search.{those_below}, Sets.{is_member, AllBelow}};
 ghost use Rattle.mat_graphic.specs.Forests.{components_of};
 
+use mat_fronts::edges_without;
 use mat_graphic::{Graphic, component_sets};
 use mat_sets::ElemSet;
 use std::alloc::{AllocError, Global};
-
-// The edges whose colour is not in the set.
-fn edges_without(alloc: Global, colour_of: &[u32], colours: &ElemSet) -> Result<ElemSet, AllocError>
-    requires { length colour_of.now < 2 ^ 32 }
-    ensures { IfOk result (λ rest. rest ≡ those_below (length colour_of.now)
-        (λ e. not (is_member (slice_index colour_of.now e) colours.now))) }
-{
-    let mut rest = ElemSet::new(alloc);
-    for e in 0..colour_of.len() as u32 {
-        if !colours.contains(colour_of[e as usize]) {
-            rest.add(e)?;
-        }
-    }
-    Ok(rest)
-}
 
 /// The groups of vertices that are joined by edges of other colours than these, in the order of their least vertices. The only error is want
 /// of memory.

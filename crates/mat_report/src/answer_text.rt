@@ -2,7 +2,7 @@
 
 ghost use Rattle.std.specs.Prelude.{ℕ, List, IfOk};
 ghost use Rattle.mat_cert.specs.{Certificates.{Certificate, IsRanged}, Views.{certificate_of}};
-ghost use Rattle.mat_problem.specs.{Validity.{IsValid}, Soundness.{IsSoundInstance}, Views.{instance_of}};
+ghost use Rattle.mat_problem.specs.{Validity.{IsValid}, Views.{instance_of}};
 ghost use Rattle.mat_desc.specs.{Notations.{NamedInstance}, Views.{named_instance}};
 ghost use Rattle.mat_right.specs.Right.{IsRight};
 
@@ -18,7 +18,6 @@ pub trait AnswerText {
     /// The text of a right answer. The only error is want of memory.
     fn text(&self, alloc: Global, named: &Named, answer: &Answer) -> Result<Vec<u8>, AllocError>
         requires valid { IsValid (instance_of named.now.problem) }
-        requires sound { IsSoundInstance (instance_of named.now.problem) }
         requires ranged { IsRanged (certificate_of answer.now) }
         requires right { IsRight (instance_of named.now.problem) (certificate_of answer.now) }
         ensures { IfOk result (λ text. says (named_instance named.now) (certificate_of answer.now) text.items) };

@@ -3,7 +3,7 @@
 ghost use Rattle.std.specs.Prelude.{◌≡◌, ◌≢◌, ◌≤◌, ◌<◌, ◌⊎◌, ℕ, List, IfOk, IfErr, Some};
 ghost use Rattle.mat_shelf.specs.Faults.{Rose};
 ghost use Rattle.mat_command.specs.CommandLines.{check};
-ghost use Rattle.mat_problem.specs.{Validity.{IsValid}, Soundness.{IsSoundInstance}, Views.{instance_of}};
+ghost use Rattle.mat_problem.specs.{Validity.{IsValid}, Views.{instance_of}};
 ghost use Rattle.mat_desc.specs.Views.{named_instance};
 ghost use Rattle.mat_judge.specs.Notes.{IsNoted};
 ghost use Rattle.mat_top.specs.{Outcomes.{Tells, IsStatus, IsOutcome, CallReaches, IsNote}, Refusals.{HasNoText, IsRefusal, IsPut}};
@@ -27,7 +27,6 @@ fn answer_text<T: AnswerText, R: CheckWorkers, F: Shelf>(
 ) -> Result<Vec<u8>, Refusal>
     requires shared { R.shared rt.now }
     requires valid { IsValid (instance_of named.now.problem) }
-    requires sound { IsSoundInstance (instance_of named.now.problem) }
     ensures held { (name : List ℕ) → F.held files.new name ≡ F.held files.old name }
     ensures grows { (name : List ℕ) → F.faults files.old name ≤ F.faults files.new name }
     ensures text { IfOk result (λ v. IsAnswerReport T.says (F.held files.old certificate.now) (named_instance named.now) v.items) }

@@ -3,7 +3,7 @@
 ghost use Rattle.std.specs.Prelude.{◌≡◌, true, IfOk};
 ghost use Rattle.mat_work.specs.Workers.{AreWorkers};
 ghost use Rattle.mat_cert.specs.Views.{certificate_of};
-ghost use Rattle.mat_problem.specs.{Validity.{IsValid}, Soundness.{IsSoundInstance}, Views.{instance_of}};
+ghost use Rattle.mat_problem.specs.{Validity.{IsValid}, Views.{instance_of}};
 ghost use Rattle.mat_solve.specs.{Answers.{IsSolution}, Queries.{has_form, IsAnswerOf, IsQueryInRange}};
 
 use crate::ladders::{assign, best, intersect, rainbow};
@@ -27,7 +27,6 @@ pub fn solve<R: SolveWorkers>(
     // `rt` may be shared with other threads. This holds of every runtime, and of a worker that starts no thread.
     requires shared { R.shared rt.now }
     requires valid { IsValid (instance_of problem.now) }
-    requires sound { IsSoundInstance (instance_of problem.now) }
     requires range { IsQueryInRange query }
     requires form { has_form query (instance_of problem.now) ≡ true }
     requires workers { AreWorkers workers }

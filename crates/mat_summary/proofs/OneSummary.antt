@@ -11,7 +11,6 @@ use Rattle.mat_fronts.specs.Assignments.{column_at, row_at}
 use Rattle.mat_fronts.specs.Once.{is_once}
 use Rattle.mat_problem.specs.Validity.{IsValid}
 use Rattle.mat_problem.specs.Instances.{Instance, pair, list, graph, rooted, table}
-use Rattle.mat_problem.proofs.SoundProblems.{IsSoundInstance-valid}
 use Rattle.mat_cert.specs.Certificates.{Certificate, intersect, union_of, trees, trees_none, arbor, unreached, assign}
 use Rattle.mat_cert.specs.declared.answer.LevelLine.{LevelLine}
 use Rattle.mat_cert.specs.declared.answer.PricedRung.{PricedRung}
@@ -37,7 +36,7 @@ Agree instance answer other = IsSolution instance answer → IsSolution instance
 
 -- a right answer to a problem in range is best
 best_of : (instance : Instance) → IsValid instance → (answer : Certificate) → IsSolution instance answer → IsOptimal instance answer
-best_of instance valid answer solution = right_is_optimal instance answer valid (IsSoundInstance-valid instance valid) solution.right
+best_of instance valid answer solution = right_is_optimal instance answer valid solution.right
 
 -- two ladders
 ladders_agree : (w : List Weight) (first second : Tree) → IsValid (pair w first second) → (n m : ℕ) (rungs others : List PricedRung)

@@ -3,7 +3,7 @@
 ghost use Rattle.std.specs.Prelude.{◌≡◌, ◌≤◌, true, IfOk};
 ghost use Rattle.mat_sets.specs.Limits.{most_elements};
 ghost use Rattle.mat_work.specs.Workers.{AreWorkers};
-ghost use Rattle.mat_problem.specs.{Validity.{IsValid}, Soundness.{IsSoundInstance}, Views.{instance_of}};
+ghost use Rattle.mat_problem.specs.{Validity.{IsValid}, Views.{instance_of}};
 ghost use Rattle.mat_cert.specs.{Certificates.{IsRanged}, Views.{certificate_of}};
 ghost use Rattle.mat_right.specs.Right.{IsRight};
 ghost use Rattle.mat_gen.specs.Samples.{sample_of};
@@ -42,7 +42,6 @@ fn accept<R: CheckWorkers>(
 ) -> Result<(), AllocError>
     requires shared { R.shared rt.now }
     requires valid { IsValid (instance_of problem.now) }
-    requires sound { IsSoundInstance (instance_of problem.now) }
     requires ranged { IsRanged (certificate_of answer.now) }
     requires right { IsRight (instance_of problem.now) (certificate_of answer.now) }
     requires workers { AreWorkers workers }
@@ -63,7 +62,6 @@ fn checked_answer<R: SolveWorkers + CheckWorkers>(
 ) -> Result<Answer, AllocError>
     requires shared { R.shared rt.now }
     requires valid { IsValid (instance_of problem.now) }
-    requires sound { IsSoundInstance (instance_of problem.now) }
     requires range { IsQueryInRange query }
     requires form { has_form query (instance_of problem.now) ≡ true }
     requires workers { AreWorkers workers }
@@ -87,7 +85,6 @@ fn summary_of<R: SolveWorkers + CheckWorkers>(
     requires shared { R.shared rt.now }
     requires sample { instance_of problem.now ≡ sample_of kind size seed }
     requires valid { IsValid (instance_of problem.now) }
-    requires sound { IsSoundInstance (instance_of problem.now) }
     requires workers { AreWorkers workers }
     ensures { IfOk result (λ v. IsSummary kind size seed v.items) }
 {

@@ -30,7 +30,7 @@ pub(crate) fn tell_graph(
         Answer::TreesNone { k, classes, .. } => {
             tell_no_trees(text, ends, vertices, *k, classes.as_slice())
         }
-        _ => Ok(()),
+        _ => unreachable!(),
     }
 }
 
@@ -63,7 +63,7 @@ pub(crate) fn tell_rooted(
         Answer::Unreached { set, .. } => tell_unreached(text, network, set),
         Answer::Disjoint { trees, .. } => tell_disjoint(text, network, trees.as_slice()),
         Answer::DisjointNone { k, set, .. } => tell_not_disjoint(text, network, *k, set),
-        _ => Ok(()),
+        _ => unreachable!(),
     }
 }
 
@@ -84,7 +84,7 @@ pub(crate) fn tell_coloured(
             missing,
             ..
         } => tell_rainbow(text, graph, rungs, cut, missing),
-        _ => Ok(()),
+        _ => unreachable!(),
     }
 }
 
@@ -100,6 +100,6 @@ pub(crate) fn tell_table(
 {
     match answer {
         Answer::Assign { rungs, cut, .. } => tell_assignment(text, cells, rungs, cut),
-        _ => Ok(()),
+        _ => unreachable!(),
     }
 }

@@ -1,11 +1,12 @@
 //! Answers about matroids: about a pair, about a list, and about a list of one.
 
-ghost use Rattle.std.specs.Prelude.{◌≤◌, ◌∷◌, [], length, map};
+ghost use Rattle.std.specs.Prelude.{◌≡◌, ◌≤◌, ◌∷◌, [], false, length, map};
 ghost use Rattle.mat_sets.specs.Limits.{most_elements};
 ghost use Rattle.mat_any.specs.{Views.{tree_of}};
 ghost use Rattle.mat_cert.specs.{Certificates.{IsRanged}, Views.{certificate_of}};
 ghost use Rattle.mat_problem.specs.{Instances.{pair, list}, Soundness.{IsSoundInstance}};
 ghost use Rattle.mat_right.specs.Right.{IsRight};
+ghost use Rattle.mat_tell.specs.Forms.{is_union};
 
 use crate::best::tell_best;
 use crate::covering::{tell_cover, tell_never};
@@ -31,7 +32,7 @@ pub(crate) fn tell_pair(
 {
     match answer {
         Answer::Intersect { rungs, cut, .. } => tell_intersection(text, called, both, rungs, cut),
-        _ => Ok(()),
+        _ => unreachable!(),
     }
 }
 
@@ -46,6 +47,7 @@ fn tell_single(
     requires sound { IsSoundInstance (list weights.now (tree_of matroid.now ∷ [])) }
     requires ranged { IsRanged (certificate_of answer.now) }
     requires right { IsRight (list weights.now (tree_of matroid.now ∷ [])) (certificate_of answer.now) }
+    requires one { is_union (certificate_of answer.now) ≡ false }
 {
     match answer {
         Answer::Best { rungs, .. } => tell_best(text, called, weights, matroid, rungs),
@@ -53,7 +55,7 @@ fn tell_single(
         Answer::Pack { bases, cut, .. } => tell_bases(text, called, matroid, bases, cut),
         Answer::CoverNever { loop_at, .. } => tell_never(text, called, matroid, *loop_at),
         Answer::Cover { sets, cut, .. } => tell_cover(text, called, matroid, sets, cut),
-        _ => Ok(()),
+        _ => unreachable!(),
     }
 }
 

@@ -1,9 +1,10 @@
 //! The text of a right answer in words.
 
-ghost use Rattle.std.specs.Prelude.{◌≡◌, IfOk};
+ghost use Rattle.std.specs.Prelude.{◌≡◌, true, IfOk};
 ghost use Rattle.mat_cert.specs.{Certificates.{IsRanged}, Views.{certificate_of}};
 ghost use Rattle.mat_problem.specs.{Validity.{IsValid}, Soundness.{IsSoundInstance}, Views.{instance_of}};
 ghost use Rattle.mat_right.specs.Right.{IsRight};
+ghost use Rattle.mat_tell.specs.Forms.{is_drawn, is_weighted};
 ghost use Rattle.mat_text.specs.{Paragraphs.{AreShallow}, Texts.{IsPrintable}};
 
 use crate::arborescences::Network;
@@ -29,7 +30,7 @@ fn tell_weighted(
     answer: &Answer,
 ) -> Result<(), AllocError>
     requires valid { IsValid (instance_of problem.now) }
-    requires sound { IsSoundInstance (instance_of problem.now) }
+    requires form { is_weighted (instance_of problem.now) ≡ true }
     requires ranged { IsRanged (certificate_of answer.now) }
     requires right { IsRight (instance_of problem.now) (certificate_of answer.now) }
 {
@@ -65,7 +66,7 @@ fn tell_weighted(
             };
             tell_table(text, &table, answer)
         }
-        _ => Ok(()),
+        _ => unreachable!(),
     }
 }
 
@@ -77,7 +78,7 @@ fn tell_drawn(
     answer: &Answer,
 ) -> Result<(), AllocError>
     requires valid { IsValid (instance_of problem.now) }
-    requires sound { IsSoundInstance (instance_of problem.now) }
+    requires form { is_drawn (instance_of problem.now) ≡ true }
     requires ranged { IsRanged (certificate_of answer.now) }
     requires right { IsRight (instance_of problem.now) (certificate_of answer.now) }
 {
@@ -154,7 +155,6 @@ fn called_in(named: &Named) -> Called<'_>
 /// memory.
 pub fn told_text(alloc: Global, named: &Named, answer: &Answer) -> Result<Text, AllocError>
     requires valid { IsValid (instance_of named.now.problem) }
-    requires sound { IsSoundInstance (instance_of named.now.problem) }
     requires ranged { IsRanged (certificate_of answer.now) }
     requires right { IsRight (instance_of named.now.problem) (certificate_of answer.now) }
 
@@ -171,7 +171,6 @@ pub fn told_text(alloc: Global, named: &Named, answer: &Answer) -> Result<Text, 
 /// are, is tested. The only error is want of memory.
 pub fn told(alloc: Global, named: &Named, answer: &Answer) -> Result<Vec<u8>, AllocError>
     requires valid { IsValid (instance_of named.now.problem) }
-    requires sound { IsSoundInstance (instance_of named.now.problem) }
     requires ranged { IsRanged (certificate_of answer.now) }
     requires right { IsRight (instance_of named.now.problem) (certificate_of answer.now) }
 

@@ -3,7 +3,6 @@ use Rattle.std.specs.Global.{Vec}
 use Rattle.std.specs.Prelude.{◌≡◌, ℕ, ◌⊎◌, true, List, [], ◌∷◌, ◌++◌, slice_get, Option, IfSome, Some, All}
 use Rattle.mat_problem.specs.Validity.{IsValid}
 use Rattle.mat_problem.specs.Instances.{Instance}
-use Rattle.mat_problem.specs.Soundness.{IsSoundInstance}
 use Rattle.mat_problem.specs.Views.{instance_of}
 use Rattle.mat_top.specs.declared.loaded_job.LoadedJob.{LoadedJob}
 use Rattle.mat_command.specs.JobLists.{Job, IsMislisted}
@@ -41,10 +40,9 @@ abbrev pub IsUnlisted : Option (List ℕ) → ℕ → ℕ → Unlisted → Type 
 IsUnlisted held before now (unlisted.Unread why) = IsUnread held description_limit before now why
 IsUnlisted held before now (unlisted.Line line) = IfSome held (λ bytes. IsMislisted bytes line)
 
--- the query is in range, and the problem is valid, of sound matroids and of the query's form
+-- the query is in range, and the problem is valid and of the query's form
 pub record IsAnswerable (loaded : LoadedJob) : Type 0 where
   pub valid : IsValid (instance_of loaded.problem)
-  pub sound : IsSoundInstance (instance_of loaded.problem)
   pub range : IsQueryInRange loaded.query
   pub form : has_form loaded.query (instance_of loaded.problem) ≡ true
 

@@ -2,7 +2,7 @@
 
 ghost use Rattle.std.specs.Prelude.{◌≡◌, ◌≤◌, ℕ, List, true, IfOk, IfErr};
 ghost use Rattle.mat_work.specs.Workers.{AreWorkers};
-ghost use Rattle.mat_problem.specs.{Validity.{IsValid}, Soundness.{IsSoundInstance}, Views.{instance_of}};
+ghost use Rattle.mat_problem.specs.{Validity.{IsValid}, Views.{instance_of}};
 ghost use Rattle.mat_command.specs.{CommandLines.{about}, Commands.{request_of, IsRequestInRange}};
 ghost use Rattle.mat_top.specs.{Outcomes.{yes_text}, Refusals.{HasText, HasNoText, HasSolutionText, MayBeWritten, IsRefusal}};
 ghost use Rattle.mat_solve.specs.Queries.{has_form, IsQueryInRange};
@@ -29,7 +29,6 @@ pub(crate) fn solution_text<R: SolveWorkers>(
 ) -> Result<Vec<u8>, AllocError>
     requires shared { R.shared rt.now }
     requires valid { IsValid (instance_of problem.now) }
-    requires sound { IsSoundInstance (instance_of problem.now) }
     requires range { IsQueryInRange query }
     requires form { has_form query (instance_of problem.now) ≡ true }
     requires workers { AreWorkers workers }
@@ -59,7 +58,6 @@ fn text_for<R: SolveWorkers + CheckWorkers, F: Shelf>(
 ) -> Result<Vec<u8>, Refusal>
     requires shared { R.shared rt.now }
     requires valid { IsValid (instance_of problem.now) }
-    requires sound { IsSoundInstance (instance_of problem.now) }
     requires range { IsRequestInRange (request_of request) }
     requires workers { AreWorkers workers }
     ensures held { (name : List ℕ) → F.held files.new name ≡ F.held files.old name }

@@ -2,7 +2,7 @@
 
 ghost use Rattle.std.specs.Prelude.{◌≡◌, ◌≤◌, ℕ, List, true, length, IfOk, IfErr, IfSome};
 ghost use Rattle.mat_cert.specs.{Certificates.{IsRanged}, Views.{certificate_of}};
-ghost use Rattle.mat_problem.specs.{Validity.{IsValid}, Soundness.{IsSoundInstance}, Views.{instance_of}};
+ghost use Rattle.mat_problem.specs.{Validity.{IsValid}, Views.{instance_of}};
 ghost use Rattle.mat_right.specs.Right.{IsRight};
 ghost use Rattle.mat_witness.specs.{Kinds.{is_witnessed_pair}, Lines.{witness_limit}};
 ghost use Rattle.mat_verify.specs.{
@@ -28,7 +28,6 @@ fn text_of_witness(
     k: u32,
 ) -> Result<Vec<u8>, AllocError>
     requires valid { IsValid (instance_of problem.now) }
-    requires sound { IsSoundInstance (instance_of problem.now) }
     requires ranged { IsRanged (certificate_of answer.now) }
     requires rung { fits_rung (instance_of problem.now) (certificate_of answer.now) k ≡ true }
     requires witnessed { is_witnessed_pair (instance_of problem.now) ≡ true }
@@ -51,7 +50,6 @@ fn text_of_rung<R: CheckWorkers>(
 ) -> Result<Vec<u8>, Refusal>
     requires shared { R.shared rt.now }
     requires valid { IsValid (instance_of problem.now) }
-    requires sound { IsSoundInstance (instance_of problem.now) }
     requires ranged { IsRanged (certificate_of answer.now) }
     requires rung { fits_rung (instance_of problem.now) (certificate_of answer.now) k ≡ true }
     requires witnessed { is_witnessed_pair (instance_of problem.now) ≡ true }
@@ -81,7 +79,6 @@ pub fn witness_text<R: CheckWorkers, F: Shelf>(
     // `rt` may be shared with other threads. This holds of every runtime, and of a worker that starts no thread.
     requires shared { R.shared rt.now }
     requires valid { IsValid (instance_of problem.now) }
-    requires sound { IsSoundInstance (instance_of problem.now) }
     ensures held { (name : List ℕ) → F.held files.new name ≡ F.held files.old name }
     ensures grows { (name : List ℕ) → F.faults files.old name ≤ F.faults files.new name }
     ensures text { IfOk result (λ v. IfSome (F.held files.old certificate.now)

@@ -2,7 +2,7 @@
 
 ghost use Rattle.std.specs.Prelude.{◌≡◌, ◌≤◌, ℕ, List, true, length, Some, OnOk, IfErr, IfSome};
 ghost use Rattle.mat_cert.specs.{Certificates.{Certificate, IsRanged}, Views.{certificate_of}};
-ghost use Rattle.mat_problem.specs.{Validity.{IsValid}, Soundness.{IsSoundInstance}, Views.{instance_of}};
+ghost use Rattle.mat_problem.specs.{Validity.{IsValid}, Views.{instance_of}};
 ghost use Rattle.mat_witness.specs.{Kinds.{has_rung, is_witnessed_pair}, Lines.{witness_limit}};
 ghost use Rattle.mat_verify.specs.{WitnessOutcomes.{IsVerifyOutcome}, WitnessRefusals.{IsUnshown, IsUnverified}, Witnessing.{IsRungAnswer}};
 
@@ -28,7 +28,6 @@ fn verify_bytes(
 ) -> Result<(), Unshown>
     requires within { length bytes.now ≤ witness_limit }
     requires valid { IsValid (instance_of problem.now) }
-    requires sound { IsSoundInstance (instance_of problem.now) }
     requires ranged { IsRanged (certificate_of answer.now) }
     requires rung { has_rung (certificate_of answer.now) k ≡ true }
     requires witnessed { is_witnessed_pair (instance_of problem.now) ≡ true }
@@ -54,7 +53,6 @@ fn verify_file<F: Shelf>(
     k: u32,
 ) -> Result<(), Unshown>
     requires valid { IsValid (instance_of problem.now) }
-    requires sound { IsSoundInstance (instance_of problem.now) }
     requires ranged { IsRanged (certificate_of answer.now) }
     requires rung { has_rung (certificate_of answer.now) k ≡ true }
     requires witnessed { is_witnessed_pair (instance_of problem.now) ≡ true }
@@ -83,7 +81,6 @@ pub fn verify_in<F: Shelf>(
     k: u32,
 ) -> Result<(), Refusal>
     requires valid { IsValid (instance_of problem.now) }
-    requires sound { IsSoundInstance (instance_of problem.now) }
     ensures held { (name : List ℕ) → F.held files.new name ≡ F.held files.old name }
     ensures grows { (name : List ℕ) → F.faults files.old name ≤ F.faults files.new name }
     ensures shown { OnOk result (IfSome (F.held files.old certificate.now) (λ bytes. (answer : Certificate)

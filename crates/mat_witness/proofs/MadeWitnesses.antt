@@ -22,7 +22,9 @@ use Rattle.mat_any.specs.TreeLaws.{tree_laws}
 use Rattle.mat_cert.specs.Certificates.{IsRanged, intersect, last_rung}
 use Rattle.mat_cert.specs.declared.answer.PricedRung.{PricedRung}
 use Rattle.mat_problem.specs.Instances.{pair}
+use Rattle.mat_problem.specs.Validity.{IsValid}
 use Rattle.mat_problem.specs.Soundness.{IsSoundInstance}
+use Rattle.mat_problem.proofs.SoundProblems.{IsSoundInstance-valid}
 use Rattle.mat_witness.specs.declared.demands.Demand.{Demand as Asked}
 use Rattle.mat_witness.specs.declared.witness.Most.{Most}
 use Rattle.mat_witness.specs.Demands.{demand_for}
@@ -146,13 +148,20 @@ rung_read : (n : ℕ) (rungs : List PricedRung) (cut : List ℕ) (k : ℕ) (rung
 rung_read n rungs cut k rung has is = get_or_default rungs k _ rung (ltb-true k (length rungs) has) ∙ sym is
 
 module _ {w : List Weight} (first second : Tree) {n : ℕ} {rungs : List PricedRung} {cut : List ℕ} {k : ℕ} {rung : PricedRung}
-    (sound : IsSoundInstance (pair w first second)) (ranged : IsRanged (intersect n rungs cut)) (has : has_rung (intersect n rungs cut) k ≡ true)
+    (valid : IsValid (pair w first second)) (ranged : IsRanged (intersect n rungs cut)) (has : has_rung (intersect n rungs cut) k ≡ true)
     (right : IsRightRungOf (pair w first second) (intersect n rungs cut) k) (read : rung ≡ get_or rungs k rung) where
   is : rung_at rungs k ≡ rung
   is = rung_read n rungs cut k rung has read
 
+  sound : IsSoundInstance (pair w first second)
+  sound = IsSoundInstance-valid (pair w first second) valid
+
   counts : n ≡ element_count first
   counts = right.counted ∙ sym sound.1
+
+  -- the cut is of elements of the first matroid
+  pub cut_inside : IsSet (element_count first) cut
+  cut_inside = subst (λ m. IsSet m cut) counts ranged.1
 
   -- the rung's set is heaviest under both halves
   pub right_is_split : IsSplit first second k rung

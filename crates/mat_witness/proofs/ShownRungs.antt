@@ -24,7 +24,7 @@ use Rattle.mat_cert.specs.Certificates.{arbor, unreached, disjoint, disjoint_non
 use Rattle.mat_cert.specs.declared.answer.PricedRung.{PricedRung}
 use Rattle.mat_problem.specs.Validity.{IsValid, IsValidTree}
 use Rattle.mat_problem.specs.Instances.{Instance, pair, list, graph, rooted, coloured, table}
-use Rattle.mat_problem.specs.Soundness.{IsSoundInstance}
+use Rattle.mat_problem.proofs.SoundProblems.{IsSoundInstance-valid}
 use Rattle.mat_witness.specs.BoundParts.{bound_of, shows_bound}
 use Rattle.mat_witness.specs.FreeParts.{shows_free}
 use Rattle.mat_witness.specs.Kinds.{has_rung, is_witnessed_pair}
@@ -168,26 +168,26 @@ module _ (w : List Weight) (first second : Tree) (sound : IsSound first × (elem
 -- ---- the law
 
 pub shown_is_best : (instance : Instance) (answer : Certificate) (k : ℕ) (witness : WitnessParts) → IsValid instance
-    → IsSoundInstance instance → is_witnessed_pair instance ≡ true → IsRanged answer → has_rung answer k ≡ true
+    → is_witnessed_pair instance ≡ true → IsRanged answer → has_rung answer k ≡ true
     → IsWitnessFor instance answer k witness → IsShown instance answer k witness → IsProvedRung instance answer k
-shown_is_best (pair w first second) (intersect n rungs cut) k witness valid sound kinds ranged has for shown =
-    pair_is_proved w first second sound valid.1.0 valid.2.0 rungs cut k n witness ranged has for shown
-shown_is_best (pair w first second) (best n rungs) k witness valid sound kinds ranged has for shown = absurd for
-shown_is_best (pair w first second) (union_of n weight parts levels) k witness valid sound kinds ranged has for shown = absurd for
-shown_is_best (pair w first second) (pack_any n) k witness valid sound kinds ranged has for shown = absurd for
-shown_is_best (pair w first second) (pack n bases cut) k witness valid sound kinds ranged has for shown = absurd for
-shown_is_best (pair w first second) (cover_never n loop_at) k witness valid sound kinds ranged has for shown = absurd for
-shown_is_best (pair w first second) (cover n sets cut) k witness valid sound kinds ranged has for shown = absurd for
-shown_is_best (pair w first second) (trees n sets) k witness valid sound kinds ranged has for shown = absurd for
-shown_is_best (pair w first second) (trees_none n m vertices classes) k witness valid sound kinds ranged has for shown = absurd for
-shown_is_best (pair w first second) (arbor n cost arcs half other) k witness valid sound kinds ranged has for shown = absurd for
-shown_is_best (pair w first second) (unreached n vertices set) k witness valid sound kinds ranged has for shown = absurd for
-shown_is_best (pair w first second) (disjoint n sets) k witness valid sound kinds ranged has for shown = absurd for
-shown_is_best (pair w first second) (disjoint_none n m vertices set) k witness valid sound kinds ranged has for shown = absurd for
-shown_is_best (pair w first second) (rainbow n vertices colours rungs cut missing) k witness valid sound kinds ranged has for shown = absurd for
-shown_is_best (pair w first second) (assign n rows columns rungs cut) k witness valid sound kinds ranged has for shown = absurd for
-shown_is_best (list w matroids) answer k witness valid sound kinds ranged has for shown = absurd for
-shown_is_best (graph vertices edges) answer k witness valid sound kinds ranged has for shown = absurd for
-shown_is_best (rooted vertices root arcs costs) answer k witness valid sound kinds ranged has for shown = absurd for
-shown_is_best (coloured vertices colours edges colour_of w) answer k witness valid sound kinds ranged has for shown = absurd for
-shown_is_best (table rows columns cells w) answer k witness valid sound kinds ranged has for shown = absurd for
+shown_is_best (pair w first second) (intersect n rungs cut) k witness valid kinds ranged has for shown =
+    pair_is_proved w first second (IsSoundInstance-valid (pair w first second) valid) valid.1.0 valid.2.0 rungs cut k n witness ranged has for shown
+shown_is_best (pair w first second) (best n rungs) k witness valid kinds ranged has for shown = absurd for
+shown_is_best (pair w first second) (union_of n weight parts levels) k witness valid kinds ranged has for shown = absurd for
+shown_is_best (pair w first second) (pack_any n) k witness valid kinds ranged has for shown = absurd for
+shown_is_best (pair w first second) (pack n bases cut) k witness valid kinds ranged has for shown = absurd for
+shown_is_best (pair w first second) (cover_never n loop_at) k witness valid kinds ranged has for shown = absurd for
+shown_is_best (pair w first second) (cover n sets cut) k witness valid kinds ranged has for shown = absurd for
+shown_is_best (pair w first second) (trees n sets) k witness valid kinds ranged has for shown = absurd for
+shown_is_best (pair w first second) (trees_none n m vertices classes) k witness valid kinds ranged has for shown = absurd for
+shown_is_best (pair w first second) (arbor n cost arcs half other) k witness valid kinds ranged has for shown = absurd for
+shown_is_best (pair w first second) (unreached n vertices set) k witness valid kinds ranged has for shown = absurd for
+shown_is_best (pair w first second) (disjoint n sets) k witness valid kinds ranged has for shown = absurd for
+shown_is_best (pair w first second) (disjoint_none n m vertices set) k witness valid kinds ranged has for shown = absurd for
+shown_is_best (pair w first second) (rainbow n vertices colours rungs cut missing) k witness valid kinds ranged has for shown = absurd for
+shown_is_best (pair w first second) (assign n rows columns rungs cut) k witness valid kinds ranged has for shown = absurd for
+shown_is_best (list w matroids) answer k witness valid kinds ranged has for shown = absurd for
+shown_is_best (graph vertices edges) answer k witness valid kinds ranged has for shown = absurd for
+shown_is_best (rooted vertices root arcs costs) answer k witness valid kinds ranged has for shown = absurd for
+shown_is_best (coloured vertices colours edges colour_of w) answer k witness valid kinds ranged has for shown = absurd for
+shown_is_best (table rows columns cells w) answer k witness valid kinds ranged has for shown = absurd for

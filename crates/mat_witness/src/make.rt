@@ -5,7 +5,7 @@ ghost use Rattle.mat_sets.specs.{Sets.{IsSet, all_below, minus}, Weights.{weight
 ghost use Rattle.mat_laws.specs.{Heaviest.{IsHeaviest}, Ranks.{rank}};
 ghost use Rattle.mat_any.specs.{Trees.{element_count, is_independent}, Views.{tree_of}};
 ghost use Rattle.mat_cert.specs.{Certificates.{IsRanged}, Views.{certificate_of}};
-ghost use Rattle.mat_problem.specs.{Validity.{IsValid}, Soundness.{IsSoundInstance}, Views.{instance_of}};
+ghost use Rattle.mat_problem.specs.{Validity.{IsValid}, Views.{instance_of}};
 ghost use Rattle.mat_witness.specs.{
   BoundParts.{bound_of, shows_bound},
   Demands.{demand_for},
@@ -159,7 +159,6 @@ pub fn make_witness(
     k: u32,
 ) -> Result<Witness, AllocError>
     requires valid { IsValid (instance_of problem.now) }
-    requires sound { IsSoundInstance (instance_of problem.now) }
     requires witnessed { is_witnessed_pair (instance_of problem.now) ≡ true }
     requires ranged { IsRanged (certificate_of answer.now) }
     requires rung { has_rung (certificate_of answer.now) k ≡ true }

@@ -146,7 +146,6 @@ pub fn verify(
     witness: &Witness,
 ) -> Result<Option<u32>, AllocError>
     requires valid { IsValid (instance_of problem.now) }
-    requires sound { IsSoundInstance (instance_of problem.now) }
     requires witnessed { is_witnessed_pair (instance_of problem.now) ≡ true }
     requires ranged { IsRanged (certificate_of answer.now) }
     requires rung { has_rung (certificate_of answer.now) k ≡ true }

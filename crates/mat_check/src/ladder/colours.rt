@@ -3,27 +3,13 @@
 ghost use Rattle.std.specs.Prelude.{◌≡◌, ◌≤◌, length, slice_index, IfOk};
 ghost use Rattle.mat_sets.specs.{Limits.{most_elements}, Graphs.{IsGraph, ends_of}, Sets.{AllBelow}};
 ghost use Rattle.mat_graphic.specs.Forests.{number_of_components};
-ghost use Rattle.mat_fronts.specs.Rainbow.{edges_without};
 ghost use Rattle.mat_check.specs.{Clauses.{first_failure}, TreeClauses.{colours_clauses}};
 
 use crate::reason::{Failure, Reason};
+use mat_fronts::edges_without;
 use mat_graphic::{Graphic, least_vertices};
 use mat_sets::{ElemSet, Pairs};
 use std::alloc::{AllocError, Global};
-
-// The edges whose colour is not in the set.
-fn edges_without(alloc: Global, colour_of: &[u32], colours: &ElemSet) -> Result<ElemSet, AllocError>
-    requires few { length colour_of.now ≤ most_elements }
-    ensures { IfOk result (λ s. s ≡ edges_without (length colour_of.now) (slice_index colour_of.now) colours.now) }
-{
-    let mut rest = ElemSet::new(alloc);
-    for e in 0..colour_of.len() as u32 {
-        if !colours.contains(colour_of[e as usize]) {
-            rest.add(e)?;
-        }
-    }
-    Ok(rest)
-}
 
 // How many components these edges make of the vertices: as many as vertices that are the least of theirs.
 fn component_count(

@@ -1,7 +1,7 @@
 //! Reading a description: its version, the problem of its form, and its end.
 
 ghost use Rattle.std.specs.Prelude.{◌≤◌, length, IfOk};
-ghost use Rattle.mat_problem.specs.{Validity.{IsValid}, Instances.{Instance}, Soundness.{IsSoundInstance}, Views.{instance_of}};
+ghost use Rattle.mat_problem.specs.{Validity.{IsValid}, Instances.{Instance}, Views.{instance_of}};
 ghost use Rattle.mat_desc.specs.{
   Grammar.{Spells},
   Limits.{description_limit},
@@ -128,9 +128,8 @@ pub fn read_problem(alloc: Global, text: &[u8]) -> Result<Problem, DescRefusal>
     ensures found { IfOk result (λ problem. Spells text.now (instance_of problem)) }
     ensures only { (instance : Instance) → Spells text.now instance → Gives instance_of result (Ok instance) }
 
-    // The problem is in range, and its matroids are sound and on the elements that the weights are of.
+    // The problem is in range, and so its matroids are sound and on the elements that the weights are of.
     ensures valid { IfOk result (λ problem. IsValid (instance_of problem)) }
-    ensures sound { IfOk result (λ problem. IsSoundInstance (instance_of problem)) }
 {
     problem_alone(alloc, text)
 }

@@ -4,7 +4,7 @@ ghost use Rattle.std.specs.Prelude.{◌≡◌, ◌<◌, ◌≤◌, true, length,
 ghost use Rattle.mat_words.specs.{Cursors.{lines_left}, Reading.{Gives}};
 ghost use Rattle.mat_any.specs.Views.{tree_of};
 ghost use Rattle.mat_cert.specs.{Certificates.{IsRanged}, Views.{certificate_of}};
-ghost use Rattle.mat_problem.specs.{Validity.{IsValid, IsValidTree}, Soundness.{IsSoundInstance}, Views.{instance_of}};
+ghost use Rattle.mat_problem.specs.{Validity.{IsValid, IsValidTree}, Views.{instance_of}};
 ghost use Rattle.mat_witness.specs.{
   BoundRows.{row_at},
   Kinds.{has_rung, is_witnessed_pair},
@@ -182,7 +182,6 @@ pub fn read_witness(
     k: u32,
 ) -> Result<Witness, CertRefusal>
     requires valid { IsValid (instance_of problem.now) }
-    requires sound { IsSoundInstance (instance_of problem.now) }
     requires witnessed { is_witnessed_pair (instance_of problem.now) ≡ true }
     requires ranged { IsRanged (certificate_of answer.now) }
     requires rung { has_rung (certificate_of answer.now) k ≡ true }

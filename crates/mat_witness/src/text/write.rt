@@ -5,7 +5,7 @@ ghost use Rattle.mat_sets.specs.Limits.{most_elements};
 ghost use Rattle.mat_words.specs.Lines.{text_of};
 ghost use Rattle.mat_any.specs.Views.{tree_of};
 ghost use Rattle.mat_cert.specs.{Certificates.{IsRanged}, Views.{certificate_of}};
-ghost use Rattle.mat_problem.specs.{Validity.{IsValid}, Soundness.{IsSoundInstance}, Views.{instance_of}};
+ghost use Rattle.mat_problem.specs.{Validity.{IsValid}, Views.{instance_of}};
 ghost use Rattle.mat_witness.specs.{
   Kinds.{has_rung, is_witnessed_pair},
   Lines.{bounds_lines, witness_lines, witness_text},
@@ -84,7 +84,6 @@ pub fn write_witness(
     k: u32,
 ) -> Result<Vec<u8>, AllocError>
     requires valid { IsValid (instance_of problem.now) }
-    requires sound { IsSoundInstance (instance_of problem.now) }
     requires witnessed { is_witnessed_pair (instance_of problem.now) ≡ true }
     requires ranged { IsRanged (certificate_of answer.now) }
     requires rung { has_rung (certificate_of answer.now) k ≡ true }

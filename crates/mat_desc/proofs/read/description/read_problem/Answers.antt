@@ -1,5 +1,5 @@
 use Rattle.mat_problem.specs.Views.{instance_of}
-use Rattle.mat_desc.proofs.ProblemLaws.{gives_found, gives_only, gives_valid, gives_sound}
+use Rattle.mat_desc.proofs.ProblemLaws.{gives_found, gives_only, gives_valid}
 use Rattle.mat_desc.proofs.read.description.read_problem.Goals as goal
 
 pub returns-clause-found : goal.returns-clause-found
@@ -10,6 +10,3 @@ returns-clause-only c = gives_only instance_of c.args.text.now c.problem_alone.r
 
 pub returns-clause-valid : goal.returns-clause-valid
 returns-clause-valid c = gives_valid instance_of c.args.text.now c.problem_alone.result c.problem_alone.ensures
-
-pub returns-clause-sound : goal.returns-clause-sound
-returns-clause-sound c = gives_sound instance_of c.args.text.now c.problem_alone.result c.problem_alone.ensures

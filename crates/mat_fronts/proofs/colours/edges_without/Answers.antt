@@ -1,8 +1,8 @@
 use Rattle.std.proofs.Common.{ℕ, sym, ap, not, get_or, ◌∙◌}
 use Rattle.mat_sets.specs.Sets.{is_member, with_one}
 use Rattle.mat_sets.proofs.Rounds.{those_below-none, those_below-put, those_below-skip}
-use Rattle.mat_check.proofs.ladder.colours.edges_without.Goals as goal
-use Rattle.mat_check.proofs.ladder.colours.edges_without.Goals.{then-not-contains+in_ok-add, else-not-contains}
+use Rattle.mat_fronts.proofs.colours.edges_without.Goals as goal
+use Rattle.mat_fronts.proofs.colours.edges_without.Goals.{then-not-contains+in_ok-add, else-not-contains}
 
 pub loop-e-init : goal.loop-e-init
 loop-e-init c = c.new-rest.ensures.members ∙ those_below-none (λ e. not (is_member (get_or c.args.colour_of.now e 0) c.args.colours.now))
