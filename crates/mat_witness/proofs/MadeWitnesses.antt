@@ -1,12 +1,13 @@
 -- The parts that are made are those of a witness: of a rung's set the members in each demanded set are maximal there, so a part that bounds the
 -- rank by their number meets the demand; and the numbers of both parts for the cut are the ranks, which add up to the last rung.
-use Rattle.std.proofs.Common.{◌≡◌, ℕ, ◌+◌, ◌<◌, Bool, true, List, [], ◌∷◌, ◌++◌, length, map, take, drop, get_or}
+use Rattle.std.proofs.Common.{◌≡◌, ℕ, ◌+◌, ◌<◌, ◌≤◌, Bool, true, List, [], ◌∷◌, ◌++◌, length, map, take, drop, get_or}
 use Rattle.std.proofs.Common.{refl, sym, subst, ap, ◌∙◌, arith}
 use Rattle.std.specs.List.{All, AllZip, filter}
 use Rattle.std.specs.Prelude.{nat_lt}
-use Rattle.std.proofs.lemmas.Bool.{and_from, eq-eqb, ltb-true}
+use Rattle.std.proofs.lemmas.Bool.{and_from, and_parts, eq-eqb, ltb-true}
 use Rattle.std.proofs.lemmas.List.{get_or-map, get_or_default, length-map, map-append, take_more}
 use Rattle.std.proofs.lemmas.List.Elements.{All-filter, All-map, filter_passes}
+use Rattle.mat_sets.specs.Limits.{most_elements}
 use Rattle.mat_sets.specs.Sets.{IsSet, all_below, is_member, minus}
 use Rattle.mat_sets.specs.Weights.{weight_at}
 use Rattle.mat_sets.specs.declared.weight.Weight.{Weight}
@@ -22,14 +23,14 @@ use Rattle.mat_any.specs.TreeLaws.{tree_laws}
 use Rattle.mat_cert.specs.Certificates.{IsRanged, intersect, last_rung}
 use Rattle.mat_cert.specs.declared.answer.PricedRung.{PricedRung}
 use Rattle.mat_problem.specs.Instances.{pair}
-use Rattle.mat_problem.specs.Validity.{IsValid}
+use Rattle.mat_problem.specs.Validity.{IsValid, IsValidTree}
 use Rattle.mat_problem.specs.Soundness.{IsSoundInstance}
 use Rattle.mat_problem.proofs.SoundProblems.{IsSoundInstance-valid}
 use Rattle.mat_witness.specs.declared.demands.Demand.{Demand as Asked}
 use Rattle.mat_witness.specs.declared.witness.Most.{Most}
 use Rattle.mat_witness.specs.Demands.{demand_for}
-use Rattle.mat_witness.specs.Kinds.{has_rung}
-use Rattle.mat_witness.specs.Making.{AreRungBounds, IsFilled, IsMeeting, IsRungWitness, IsSplit, IsWitnessed}
+use Rattle.mat_witness.specs.Kinds.{has_rung, is_witnessed, is_witnessed_pair}
+use Rattle.mat_witness.specs.Making.{AreRungBounds, AreWitnessed, IsFilled, IsMeeting, IsRungWitness, IsSplit, IsWitnessed}
 use Rattle.mat_witness.specs.Parts.{BoundPart, WitnessParts}
 use Rattle.mat_witness.specs.Shown.{AreBoundsFor, Demand, IsRightRungOf, IsShown, IsWitness, IsWitnessFor, are_met, bounds_common_sets, demand_at}
 use Rattle.mat_witness.specs.Shown.{demands_of, demands_under, shows_common_set, is_priced, meets, rung_at}
@@ -44,6 +45,30 @@ both_zip R [] ys [] vs a b = b
 both_zip R [] ys (u ∷ us) vs a b = absurd a
 both_zip R (x ∷ xs) ys [] vs a b = absurd a
 both_zip R (x ∷ xs) ys (u ∷ us) vs a b = (a.0, both_zip R xs ys us vs a.1 b)
+
+-- ---- the matroids
+
+-- matroids of a valid pair, of witnessed kinds, are those that witnesses are made for
+pub are_witnessed : (w : List Weight) (first second : Tree) → IsValid (pair w first second) → is_witnessed_pair (pair w first second) ≡ true
+    → AreWitnessed first second
+are_witnessed w first second valid kinds =
+    let sound : IsSoundInstance (pair w first second) = IsSoundInstance-valid (pair w first second) valid in
+    let both = and_parts (is_witnessed first) (is_witnessed second) kinds in
+    record {
+      first_matroid = record {
+        few = subst (λ n. n ≤ most_elements) (sym sound.1) valid.0.0;
+        sound = sound.0;
+        valid = subst (λ n. IsValidTree n first) (sym sound.1) valid.1.0;
+        kind = both.0;
+      };
+      second_matroid = record {
+        few = subst (λ n. n ≤ most_elements) (sym sound.3) valid.0.0;
+        sound = sound.2;
+        valid = subst (λ n. IsValidTree n second) (sym sound.3) valid.2.0;
+        kind = both.1;
+      };
+      same_count = sound.3 ∙ sym sound.1;
+    }
 
 -- ---- the demands of a half
 

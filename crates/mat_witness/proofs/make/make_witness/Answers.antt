@@ -1,8 +1,13 @@
 use Rattle.std.proofs.lemmas.Result.{IfOk-weaker}
 use Rattle.mat_any.specs.Views.{tree_of}
 use Rattle.mat_witness.specs.Views.{witness_parts}
-use Rattle.mat_witness.proofs.MadeWitnesses.{cut_inside, made_is_shown, made_is_witness, right_is_split}
+use Rattle.mat_witness.proofs.MadeWitnesses.{are_witnessed, cut_inside, made_is_shown, made_is_witness, right_is_split}
 use Rattle.mat_witness.proofs.make.make_witness.Goals as goal
+
+pub rung_witness-requires-clause-witnessed : goal.rung_witness-requires-clause-witnessed
+rung_witness-requires-clause-witnessed c =
+    let here = c.in-Pair-Intersect in
+    are_witnessed here.weights-0 (tree_of here.first) (tree_of here.second) (rw here.is-0 at c.requires.valid) (rw here.is-0 at c.requires.witnessed)
 
 pub rung_witness-requires-clause-rung : goal.rung_witness-requires-clause-rung
 rung_witness-requires-clause-rung c =
