@@ -10,7 +10,7 @@ ghost use Rattle.mat_check.specs.{BeatenRungs.{AreTold, IsTold}, Halves.{half_at
 
 use crate::ladder::halves::{ListedHalves, Side, half, list_halves};
 use crate::ladder::rung_sums::{RungSums, rung_sums};
-use crate::sets::exchanges::{empty_with_exchanges, is_beaten_by_exchange, moved_to};
+use crate::sets::exchanges::{is_beaten_by_exchange, keep_empty, move_to};
 use crate::sets::searches::is_lighter;
 use crate::workers::CheckWorkers;
 use mat_any::{AnyMatroid, has_union};
@@ -63,7 +63,7 @@ fn beaten_by_sums<M: Matroid>(
     Ok(beaten)
 }
 
-// Which rungs are beaten, by the exchanges at their sets, which are handed on from one set to the next.
+// Which rungs are beaten, by the exchanges at their sets, one after the other: what is kept of a set is made from what is kept of the one before.
 fn beaten_by_exchanges<M: Matroid>(
     alloc: Global,
     m: &M,
@@ -76,22 +76,32 @@ fn beaten_by_exchanges<M: Matroid>(
     ensures told { IfOk result (λ beaten. AreTold (M.ground_size m.now) (M.indep m.now) side rungs.now beaten.items) }
 {
     let mut beaten = Vec::with_capacity(alloc, rungs.len())?;
-    let mut here = empty_with_exchanges(alloc, m)?;
+    let mut here = keep_empty(alloc, m)?;
     for k in 0..rungs.len() {
         let rung = &rungs[k];
-        here = moved_to(alloc, m, here, &rung.set)?;
-        beaten.push(is_beaten_by_exchange(m, half(rung, side), &here))?;
+        here = move_to(alloc, m, here, &rung.set)?;
+        let is_beaten = is_beaten_by_exchange(alloc, m, half(rung, side), &here)?;
+        beaten.push(is_beaten)?;
     }
     Ok(beaten)
 }
 
-// Whether a run of the greedy algorithm for each of these halves takes longer than exchanges at the sets of the rungs.
+// Whether a matroid is a union of two that hold no union, and many halves differ: then a run of the greedy algorithm for each of these takes longer
+// than exchanges. A search for moves asks each element that it reaches at each part, so that with many parts a circuit may take longer than a run.
 fn exchanges_pay(m: &AnyMatroid, halves: &ListedHalves) -> bool {
-    has_union(m) && halves.listed.len() * 8 > halves.own.len()
+    match m {
+        AnyMatroid::Union { parts } => {
+            parts.len() == 2
+                && !has_union(&parts[0])
+                && !has_union(&parts[1])
+                && halves.listed.len() > halves.own.len() / 8
+        }
+        _ => false,
+    }
 }
 
-/// Which rungs are beaten in a matroid under their halves of the splits; of a rung whose set is dependent nothing is told. Where a matroid holds
-/// a union and many halves differ, this is told by the exchanges at the sets, one after the other; else by one run of the greedy algorithm for
+/// Which rungs are beaten in a matroid under their halves of the splits; of a rung whose set is dependent nothing is told. Of a union of
+/// two, where many halves differ, this is told by the exchanges at the sets, one after the other; else by one run of the greedy algorithm for
 /// each half that isn't that of the rung before, which the workers share. The only error is want of memory.
 pub(crate) fn beaten_rungs<R: CheckWorkers>(
     rt: &R,

@@ -1,121 +1,151 @@
-//! Whether a heavier independent set of the same size is there, told by the exchanges at the set.
+//! Whether a heavier independent set of the same size is there, told by exchanges at the set.
 
-ghost use Rattle.std.specs.Prelude.{◌≡◌, ◌<◌, ◌≤◌, true, length, IfOk};
-ghost use Rattle.mat_sets.specs.{Limits.{most_elements}, Sets.{AllBelow}, Weights.{weight_at}};
-ghost use Rattle.mat_laws.specs.{Exchanges.{rows_of}, Searches.{is_beaten}, TightPaths.{exchanges_in}};
-ghost use Rattle.mat_check.specs.Exchanges.{exchange_gains, gains_among, is_gain};
+ghost use Rattle.std.specs.Prelude.{◌≡◌, ◌<◌, true, length, IfOk};
+ghost use Rattle.mat_sets.specs.{Sets.{AllBelow}, Weights.{weight_at}};
+ghost use Rattle.mat_laws.specs.Searches.{is_beaten};
+ghost use Rattle.mat_check.specs.Exchanges.{exceeds_least, exchange_gains, has_lighter, least_with, IsLeastWeightOrNone};
 
-use mat_exchange::{ExchangesAt, RowTable, exchanges_in_turn, next_in_turn};
 use mat_laws::Matroid;
 use mat_sets::{ElemSet, Weight};
 use std::alloc::{AllocError, Global};
 
-/// An independent set, what a matroid keeps of it, and the exchanges of all elements at it.
+/// An independent set, and what a matroid keeps of it.
 #[derive(Drop)]
-pub(crate) struct SetWithExchanges<K: Drop> {
+pub(crate) struct KeptSet<K: Drop> {
     pub(crate) set: ElemSet,
-    pub(crate) at: ExchangesAt<K>,
+    pub(crate) kept: K,
 }
 
-// Whether x weighs more than y and can take its place.
-fn is_gain(table: &RowTable, weights: &[Weight], x: u32, y: u32) -> bool
-    requires count { length table.now ≡ length weights.now }
-    requires element { x < length weights.now }
-    requires member { y < length weights.now }
-    ensures { result ≡ is_gain (exchanges_in table.now) (weight_at weights.now) x y }
-{
-    weights[y as usize] < weights[x as usize] && table.trades(y, x)
-}
-
-// Whether x can take the place of one of these elements that weighs less.
-fn gains_among(table: &RowTable, weights: &[Weight], elements: &[u32], x: u32) -> bool
-    requires count { length table.now ≡ length weights.now }
-    requires below { x < length weights.now }
-    requires inside { AllBelow (length weights.now) elements.now }
-    ensures { result ≡ gains_among (exchanges_in table.now) (weight_at weights.now) elements.now x }
-{
-    for i in 0..elements.len() {
-        if is_gain(table, weights, x, elements[i]) {
-            return true;
-        }
-    }
-    false
-}
-
-/// Whether an element can take the place of one of these that weighs less. It takes no memory.
-pub(crate) fn exchange_gains(table: &RowTable, weights: &[Weight], elements: &[u32]) -> bool
-    requires count { length table.now ≡ length weights.now }
-    requires few { length weights.now ≤ most_elements }
-    requires inside { AllBelow (length weights.now) elements.now }
-    ensures { result ≡ exchange_gains (length weights.now) (exchanges_in table.now) (weight_at weights.now) elements.now }
-{
-    for x in 0..weights.len() as u32 {
-        if gains_among(table, weights, elements, x) {
-            return true;
-        }
-    }
-    false
-}
-
-/// The empty set with the exchanges at it. The only error is want of memory.
-pub(crate) fn empty_with_exchanges<M: Matroid>(
-    alloc: Global,
-    m: &M,
-) -> Result<SetWithExchanges<M::Kept>, AllocError>
+/// The empty set, and what a matroid keeps of it. The only error is want of memory.
+pub(crate) fn keep_empty<M: Matroid>(alloc: Global, m: &M) -> Result<KeptSet<M::Kept>, AllocError>
     requires sound { M.sound m.now }
-    requires few { M.ground_size m.now ≤ most_elements }
     ensures passes { IfOk result (λ here. M.indep m.now here.set ≡ true) }
-    ensures kept { IfOk result (λ here. M.keeps m.now here.set here.at.kept) }
-    ensures table { IfOk result (λ here. here.at.table ≡ rows_of (M.ground_size m.now) (M.indep m.now) here.set) }
+    ensures kept { IfOk result (λ here. M.keeps m.now here.set here.kept) }
 {
     m.lawful();
     let set = ElemSet::new(alloc);
-    let at = exchanges_in_turn(alloc, m, &set)?;
-    Ok(SetWithExchanges { set, at })
+    let kept = m.keep(alloc, &set)?;
+    Ok(KeptSet { set, kept })
 }
 
-/// The next set, where it is independent, with the exchanges at it, made from those at the set before; else the set before. The only error is
-/// want of memory.
-pub(crate) fn moved_to<M: Matroid>(
+/// The next set, where it is independent, and what the matroid keeps of it, made from what it keeps of the set before; else the set before. The
+/// only error is want of memory.
+pub(crate) fn move_to<M: Matroid>(
     alloc: Global,
     m: &M,
-    before: SetWithExchanges<M::Kept>,
+    before: KeptSet<M::Kept>,
     next: &ElemSet,
-) -> Result<SetWithExchanges<M::Kept>, AllocError>
+) -> Result<KeptSet<M::Kept>, AllocError>
     requires sound { M.sound m.now }
-    requires few { M.ground_size m.now ≤ most_elements }
     requires passes { M.indep m.now before.set ≡ true }
-    requires kept { M.keeps m.now before.set before.at.kept }
-    requires table { before.at.table ≡ rows_of (M.ground_size m.now) (M.indep m.now) before.set }
+    requires kept { M.keeps m.now before.set before.kept }
     requires below { AllBelow (M.ground_size m.now) next.now }
     ensures passes { IfOk result (λ here. M.indep m.now here.set ≡ true) }
-    ensures kept { IfOk result (λ here. M.keeps m.now here.set here.at.kept) }
-    ensures table { IfOk result (λ here. here.at.table ≡ rows_of (M.ground_size m.now) (M.indep m.now) here.set) }
+    ensures kept { IfOk result (λ here. M.keeps m.now here.set here.kept) }
     ensures moved { IfOk result (λ here. M.indep m.now next.now ≡ true → here.set ≡ next.now) }
 {
     if !m.independent(alloc, next)? {
         return Ok(before);
     }
-    let SetWithExchanges { set, at } = before;
-    let at = next_in_turn(alloc, m, &set, at, next)?;
+    let kept = m.keep_next(alloc, &before.set, &before.kept, next)?;
     let set = next.copy(alloc)?;
-    Ok(SetWithExchanges { set, at })
+    Ok(KeptSet { set, kept })
 }
 
-/// Whether some independent set of as many elements is heavier, told by the exchanges at an independent set: then an exchange of one member for
-/// an element outside makes it heavier (Schrijver, chapter 40). It takes no memory.
-pub(crate) fn is_beaten_by_exchange<M: Matroid>(
+// The least weight of some elements and one more.
+fn least_with(least: Option<Weight>, weight: Weight) -> Option<Weight>
+    ensures { result ≡ least_with least weight }
+{
+    match least {
+        Some(other) => Some(if weight < other { weight } else { other }),
+        None => Some(weight),
+    }
+}
+
+// The least weight of these elements; none where there are none.
+fn least_weight(elements: &[u32], weights: &[Weight]) -> Option<Weight>
+    requires { AllBelow (length weights.now) elements.now }
+    ensures { IsLeastWeightOrNone (weight_at weights.now) elements.now result }
+{
+    let mut least = None;
+    for y in elements {
+        least = least_with(least, weights[*y as usize]);
+    }
+    least
+}
+
+// Whether a weight is above the least weight, where there is one.
+fn exceeds_least(weight: Weight, least: Option<Weight>) -> bool
+    ensures { result ≡ exceeds_least weight least }
+{
+    match least {
+        Some(other) => other < weight,
+        None => false,
+    }
+}
+
+// Whether one of these elements weighs less than this.
+fn has_lighter(elements: &[u32], weights: &[Weight], other: Weight) -> bool
+    requires { AllBelow (length weights.now) elements.now }
+    ensures { result ≡ has_lighter (weight_at weights.now) elements.now other }
+{
+    exceeds_least(other, least_weight(elements, weights))
+}
+
+// Whether x is outside an independent set, of which something is kept, and can take the place of a member that weighs less. An element that
+// outweighs no member needs no row; of the others each that can be added can take any member's place, and so that of the lightest.
+fn exchange_gains<M: Matroid>(
+    alloc: Global,
     m: &M,
     weights: &[Weight],
-    here: &SetWithExchanges<M::Kept>,
-) -> bool
+    set: &ElemSet,
+    kept: &M::Kept,
+    least: Option<Weight>,
+    x: u32,
+) -> Result<bool, AllocError>
     requires sound { M.sound m.now }
     requires lengths { length weights.now ≡ M.ground_size m.now }
-    requires few { M.ground_size m.now ≤ most_elements }
-    requires passes { M.indep m.now here.now.set ≡ true }
-    requires table { here.now.at.table ≡ rows_of (M.ground_size m.now) (M.indep m.now) here.now.set }
-    ensures { result ≡ is_beaten (M.ground_size m.now) (M.indep m.now) (weight_at weights.now) here.now.set }
+    requires passes { M.indep m.now set.now ≡ true }
+    requires kept { M.keeps m.now set.now kept.now }
+    requires least { IsLeastWeightOrNone (weight_at weights.now) set.now least }
+    requires below { x < M.ground_size m.now }
+    ensures { IfOk result (λ gains. gains ≡ exchange_gains (M.indep m.now) (weight_at weights.now) set.now x) }
 {
     m.lawful();
-    exchange_gains(&here.at.table, weights, here.set.as_slice())
+    if set.contains(x) {
+        return Ok(false);
+    }
+    let weight = weights[x as usize];
+    if !exceeds_least(weight, least) {
+        return Ok(false);
+    }
+    match m.circuit_members(alloc, set, kept, x)? {
+        None => Ok(true),
+        Some(members) => Ok(has_lighter(members.as_slice(), weights, weight)),
+    }
+}
+
+/// Whether some independent set of as many elements is heavier than this one: then an exchange of one member for an element outside makes it
+/// heavier (Schrijver, chapter 40). The circuit of each element outside that outweighs the lightest member is asked for, until an exchange is
+/// found. The only error is want of memory.
+pub(crate) fn is_beaten_by_exchange<M: Matroid>(
+    alloc: Global,
+    m: &M,
+    weights: &[Weight],
+    here: &KeptSet<M::Kept>,
+) -> Result<bool, AllocError>
+    requires sound { M.sound m.now }
+    requires lengths { length weights.now ≡ M.ground_size m.now }
+    requires passes { M.indep m.now here.now.set ≡ true }
+    requires kept { M.keeps m.now here.now.set here.now.kept }
+    ensures { IfOk result (λ b. b ≡ is_beaten (M.ground_size m.now) (M.indep m.now) (weight_at weights.now) here.now.set) }
+{
+    m.lawful();
+    let least = least_weight(here.set.as_slice(), weights);
+    for x in 0..m.size() {
+        if exchange_gains(alloc, m, weights, &here.set, &here.kept, least, x)? {
+            return Ok(true);
+        }
+    }
+    Ok(false)
 }

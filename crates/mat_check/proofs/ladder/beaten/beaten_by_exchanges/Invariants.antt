@@ -1,6 +1,5 @@
--- Of the rungs so far it is told whether they are beaten, and the exchanges are those at an independent set.
+-- Of the rungs so far it is told whether they are beaten, and what is kept is of an independent set.
 use Rattle.std.proofs.Common.{◌≡◌, true, length}
-use Rattle.mat_laws.specs.Exchanges.{rows_of}
 use Rattle.mat_check.specs.BeatenRungs.{AreTold}
 use Rattle.mat_check.proofs.ladder.beaten.beaten_by_exchanges.Given as goal
 
@@ -9,6 +8,5 @@ invariant-loop-k g l = record {
   count : length l.beaten.items ≡ l.k;
   told : AreTold (g.M.Matroid.ground_size l.m) (g.M.Matroid.indep l.m) l.side l.rungs l.beaten.items;
   passes : g.M.Matroid.indep l.m l.here.set ≡ true;
-  kept : g.M.Matroid.keeps l.m l.here.set l.here.at.kept;
-  table : l.here.at.table ≡ rows_of (g.M.Matroid.ground_size l.m) (g.M.Matroid.indep l.m) l.here.set;
+  kept : g.M.Matroid.keeps l.m l.here.set l.here.kept;
 }
