@@ -15,8 +15,8 @@ move_to-requires-clause-below g c κs within =
     let ranged = c.requires.ranged.each c.loop-k.k c.index-rungs-k.result at in
     ranged.0.set_in_range.below
 
-pub is_beaten_by_exchange-is_beaten-requires-clause-lengths : goal.is_beaten_by_exchange-is_beaten-requires-clause-lengths
-is_beaten_by_exchange-is_beaten-requires-clause-lengths g c κs within =
+pub is_beaten_by_exchange-requires-clause-lengths : goal.is_beaten_by_exchange-requires-clause-lengths
+is_beaten_by_exchange-requires-clause-lengths g c κs within =
     let rung = c.index-rungs-k.result in
     let at = slice_get_read c.args.rungs.now _ c.loop-k.k rung refl c.loop-k-test.true c.index-rungs-k.is in
     let n = g.M.Matroid.ground_size c.args.m.now in

@@ -1,6 +1,5 @@
 -- The weight of a heaviest set is there for the size of each independent set.
 use Rattle.std.proofs.Common.{◌≡◌, ◌<◌, length, get_or, ap, ◌∙◌, arith}
-use Rattle.std.proofs.lemmas.Bool.{both_ways, lt-ltb}
 use Rattle.mat_sets.specs.Weights.{weight, weight_at, is_below, zero_weight}
 use Rattle.mat_sets.proofs.Ground.{IsSet-length}
 use Rattle.mat_check.specs.Halves.{half_of}
@@ -24,5 +23,4 @@ returns-else-size-len g c = λ passes.
     let half = half_of c.args.side c.args.rung.now in
     let there : length c.args.rung.now.set < length c.args.heaviest.now =
     weight_is_there c.lawful.ensures (weight_at half) c.args.heaviest.now c.requires.heaviest c.args.rung.now.set passes in
-    let inside : c.len-size.result < c.len.result = omega (arith, there, c.len-size.ensures.count, c.len.ensures) in
-    absurd (both_ways _ c.if-size-len.false (lt-ltb _ _ inside))
+    absurd (omega (arith, there, c.len-size.ensures.count, c.len.ensures, c.if-size-len.false))

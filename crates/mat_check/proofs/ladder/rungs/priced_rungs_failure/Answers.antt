@@ -11,7 +11,7 @@ pub returns : goal.returns
 returns g c =
     let clauses = priced_rung_clauses (length c.args.pair.now.weights.now) (is_independent (tree_of c.args.pair.now.first.now))
     (is_independent (tree_of c.args.pair.now.second.now)) c.args.pair.now.weights.now in
-    c.first_found.ensures ∙ ap first_in_order c.deref.ensures.value
+    c.first_found.ensures ∙ ap first_in_order c.deref-3.ensures.value
     ∙ first_of_found clauses c.args.rungs.now c.in_ok-failures.failures.items c.in_ok-failures.ensures.count
     c.in_ok-failures.ensures.rows
 

@@ -26,6 +26,44 @@ priced_rung_failure-requires-clause-ranged c =
     let inside = rung_inside clauses job.rungs.now c.args.self.now c.self.view_is c.args.k c.requires.below in
     c.self.invariant.5.each c.args.k _ (slice_get-get_or job.rungs.now c.args.k c.index-self-k.result inside)
 
+pub bounds-self-inside-k-2 : goal.bounds-self-inside-k-2
+bounds-self-inside-k-2 c =
+    let job = c.self.inside in
+    let pair = job.pair.now in
+    let clauses = priced_rung_clauses (length pair.weights.now) (is_independent (tree_of pair.first.now))
+    (is_independent (tree_of pair.second.now)) pair.weights.now in
+    let inside = rung_inside clauses job.rungs.now c.args.self.now c.self.view_is c.args.k c.requires.below in
+    subst (λ m. c.args.k < m) (sym c.self.invariant.6) inside
+
+pub bounds-self-inside-k-3 : goal.bounds-self-inside-k-3
+bounds-self-inside-k-3 c =
+    let job = c.self.inside in
+    let pair = job.pair.now in
+    let clauses = priced_rung_clauses (length pair.weights.now) (is_independent (tree_of pair.first.now))
+    (is_independent (tree_of pair.second.now)) pair.weights.now in
+    let inside = rung_inside clauses job.rungs.now c.args.self.now c.self.view_is c.args.k c.requires.below in
+    subst (λ m. c.args.k < m) (sym c.self.invariant.7) inside
+
+pub priced_rung_failure-requires-clause-first_told : goal.priced_rung_failure-requires-clause-first_told
+priced_rung_failure-requires-clause-first_told c =
+    let job = c.self.inside in
+    let pair = job.pair.now in
+    let clauses = priced_rung_clauses (length pair.weights.now) (is_independent (tree_of pair.first.now))
+    (is_independent (tree_of pair.second.now)) pair.weights.now in
+    let inside = rung_inside clauses job.rungs.now c.args.self.now c.self.view_is c.args.k c.requires.below in
+    c.self.invariant.8 c.args.k _ (slice_get-get_or job.rungs.now c.args.k c.index-self-k.result inside)
+    (subst (λ m. c.args.k < m) (sym c.self.invariant.6) inside)
+
+pub priced_rung_failure-requires-clause-second_told : goal.priced_rung_failure-requires-clause-second_told
+priced_rung_failure-requires-clause-second_told c =
+    let job = c.self.inside in
+    let pair = job.pair.now in
+    let clauses = priced_rung_clauses (length pair.weights.now) (is_independent (tree_of pair.first.now))
+    (is_independent (tree_of pair.second.now)) pair.weights.now in
+    let inside = rung_inside clauses job.rungs.now c.args.self.now c.self.view_is c.args.k c.requires.below in
+    c.self.invariant.9 c.args.k _ (slice_get-get_or job.rungs.now c.args.k c.index-self-k.result inside)
+    (subst (λ m. c.args.k < m) (sym c.self.invariant.7) inside)
+
 pub returns : goal.returns
 returns c =
     let job = c.self.inside in
