@@ -1,14 +1,11 @@
 -- What is told of each rung whether it is beaten, one rung after the other.
-use Rattle.std.proofs.Common.{◌≡◌, ℕ, ◌+◌, ◌<◌, Bool, true, false, List, [], ◌∷◌, ◌++◌, length, get_or, Some, inl, inr, sym, ap, ◌∙◌, subst, arith}
+use Rattle.std.proofs.Common.{◌≡◌, ℕ, Bool, false, List, [], ◌∷◌, ◌++◌, length, Some, inl, inr, sym, ap, ◌∙◌, subst, arith}
 use Rattle.std.specs.Prelude.{slice_get}
 use Rattle.std.proofs.lemmas.Bool.{cases_lt}
 use Rattle.std.proofs.lemmas.List.{get_or_append_left, get_or_push, length_push}
 use Rattle.std.proofs.lemmas.Option.{same_Some}
-use Rattle.mat_sets.specs.Weights.{weight_at}
-use Rattle.mat_laws.specs.Searches.{is_beaten}
 use Rattle.mat_cert.specs.declared.answer.PricedRung.{PricedRung}
 use Rattle.mat_check.specs.BeatenRungs.{AreTold, IsTold}
-use Rattle.mat_check.specs.Halves.{half_of}
 use Rattle.mat_check.specs.declared.ladder.halves.Side.{Side}
 
 module _ (n : ℕ) (p : List ℕ → Bool) (side : Side) (rungs : List PricedRung) where

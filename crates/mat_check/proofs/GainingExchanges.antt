@@ -4,7 +4,7 @@ use Rattle.std.proofs.Common.{◌≡◌, ℕ, ◌+◌, ◌<◌, ◌≤◌, Bool,
 use Rattle.std.proofs.Common.{filter, Option, Some, None, inl, inr, refl, sym, ap, ◌∙◌, subst, arith, take_all}
 use Rattle.std.specs.List.{list_any}
 use Rattle.std.proofs.lemmas.Bool.{and_from, and_parts, and_right, both_ways, cases_Bool, cond-true, cond-false, eq-eqb, false≢true}
-use Rattle.std.proofs.lemmas.Bool.{false_from_ne_true, not-true, not_from_false, or_cases, or_left, or_right, true_from_ne_false}
+use Rattle.std.proofs.lemmas.Bool.{false_from_ne_true, not-true, or_cases, or_left, or_right, true_from_ne_false}
 use Rattle.std.proofs.lemmas.Int.{ints}
 use Rattle.std.proofs.lemmas.List.Folds.{list_any_at, list_any_more}
 use Rattle.std.proofs.lemmas.Option.{none-some, same_Some}
@@ -17,7 +17,6 @@ use Rattle.mat_sets.proofs.Members.{is_member-head, is_member-with_one, place_of
 use Rattle.mat_sets.proofs.Search.{some_below_none}
 use Rattle.mat_sets.proofs.Truths.{or_none}
 use Rattle.mat_sets.proofs.WeightOrder.{below_from, below_gives, not_below_from, not_below_gives}
-use Rattle.mat_laws.specs.declared.exchange.Exchange.{Exchange}
 use Rattle.mat_laws.specs.Exchanges.{circuit_members, row_of}
 use Rattle.mat_laws.specs.Matroids.{IsMatroid}
 use Rattle.mat_laws.specs.Searches.{is_beaten}

@@ -1,5 +1,5 @@
 -- Rung k is in range, so that something is kept of its set, where it is independent.
-use Rattle.std.proofs.Common.{◌≡◌, ◌∙◌, ◌+◌, length, Some, slice_get, refl, sym, subst, ap, arith}
+use Rattle.std.proofs.Common.{◌≡◌, ◌∙◌, length, Some, slice_get, refl, sym, subst, ap, arith}
 use Rattle.std.proofs.lemmas.List.{length_push}
 use Rattle.std.proofs.lemmas.Option.{slice_get_read}
 use Rattle.mat_sets.specs.Weights.{weight_at}
