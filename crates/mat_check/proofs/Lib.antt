@@ -6,6 +6,8 @@ pub mod LastRung
 pub mod RangedHalves
 pub mod ListedHalves
 pub mod RungFailures
+pub mod GainingExchanges
+pub mod BeatenRungs
 pub mod NumberedFailures
 pub mod Multiplicities
 pub mod JoinedClauses

@@ -14,12 +14,12 @@ half_at-read side [] k rung at = absurd (none-some rung at)
 half_at-read side (first ∷ rungs) zero rung at = ap (half_of side) (same_Some first rung at)
 half_at-read side (first ∷ rungs) (suc k) rung at = half_at-read side rungs k rung at
 
-there : (rungs : List PricedRung) (k : ℕ) → k < length rungs → (rung : PricedRung) × (slice_get rungs k ≡ Some rung)
+pub there : (rungs : List PricedRung) (k : ℕ) → k < length rungs → (rung : PricedRung) × (slice_get rungs k ≡ Some rung)
 there [] k h = absurd (omega arith)
 there (rung ∷ rungs) zero h = (rung, refl)
 there (rung ∷ rungs) (suc k) h = there rungs k (omega arith)
 
-half_of_ranged : (side : Side) (n k : ℕ) (rung : PricedRung) → IsRangedPricedRung n k rung → IsRangedPart n (half_of side rung)
+pub half_of_ranged : (side : Side) (n k : ℕ) (rung : PricedRung) → IsRangedPricedRung n k rung → IsRangedPart n (half_of side rung)
 half_of_ranged First n k rung r = r.1
 half_of_ranged Second n k rung r = r.2
 

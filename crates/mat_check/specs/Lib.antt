@@ -7,4 +7,6 @@ pub mod AnswerClauses
 pub mod Views
 pub mod Optimal
 pub mod Halves
+pub mod Exchanges
+pub mod BeatenRungs
 pub mod RungFailures

@@ -7,6 +7,7 @@ ghost use Rattle.mat_work.specs.Workers.{AreWorkers};
 ghost use Rattle.mat_cert.specs.Certificates.{AreRangedRungs, IsRangedLadder, IsRangedPlainRung};
 ghost use Rattle.mat_check.specs.Clauses.{best_clauses, first_failure, ladder_clauses};
 
+mod beaten;
 mod colours;
 pub(crate) mod fronts;
 mod halves;

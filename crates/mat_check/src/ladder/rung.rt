@@ -5,7 +5,11 @@ ghost use Rattle.mat_sets.specs.{Limits.{largest_number, most_elements}, Sets.{a
 ghost use Rattle.mat_any.specs.{Trees.{element_count, is_independent, IsSound}, Views.{tree_of}};
 ghost use Rattle.mat_cert.specs.Certificates.{IsRangedPlainRung, IsRangedPricedRung};
 ghost use Rattle.mat_greedy.specs.Greedy.{AreHeaviestWeights};
-ghost use Rattle.mat_check.specs.Clauses.{first_failure, sum_clause, heaviest_clause, plain_rung_clauses, priced_rung_clauses};
+ghost use Rattle.mat_check.specs.{
+  BeatenRungs.{IsTold},
+  Clauses.{first_failure, sum_clause, heaviest_clause, plain_rung_clauses, priced_rung_clauses},
+  declared.ladder.halves.Side.TheVariants.{First, Second},
+};
 
 use crate::reason::{Failure, Reason};
 use crate::sets::searches::is_beaten;
@@ -68,24 +72,20 @@ pub(crate) fn plain_rung_failure<M: Matroid>(
     Ok(None)
 }
 
-// The first clause of the split of rung k that fails, for a set that is independent in both matroids.
+// The first clause of the split of rung k that fails, for a set that is independent in both matroids, told by whether it is beaten in each.
 fn split_failure(
     pair: &WeightedPair,
-    first: &PairWeights,
-    second: &PairWeights,
+    first_beaten: bool,
+    second_beaten: bool,
     k: u32,
     rung: &PricedRung,
 ) -> Option<Failure>
-    requires first_sound { IsSound (tree_of pair.now.first.now) }
-    requires second_sound { IsSound (tree_of pair.now.second.now) }
     requires first_lengths { length pair.now.weights.now ≡ element_count (tree_of pair.now.first.now) }
     requires second_lengths { length pair.now.weights.now ≡ element_count (tree_of pair.now.second.now) }
     requires few { length pair.now.weights.now ≤ most_elements }
     requires ranged { IsRangedPricedRung (length pair.now.weights.now) k rung.now }
-    requires first_heaviest { AreHeaviestWeights (element_count (tree_of pair.now.first.now)) (is_independent (tree_of pair.now.first.now))
-        (weight_at rung.now.first) first.now }
-    requires second_heaviest { AreHeaviestWeights (element_count (tree_of pair.now.second.now)) (is_independent (tree_of pair.now.second.now))
-        (weight_at rung.now.second) second.now }
+    requires first_told { IsTold (element_count (tree_of pair.now.first.now)) (is_independent (tree_of pair.now.first.now)) First rung.now first_beaten }
+    requires second_told { IsTold (element_count (tree_of pair.now.second.now)) (is_independent (tree_of pair.now.second.now)) Second rung.now second_beaten }
     requires first_passes { is_independent (tree_of pair.now.first.now) rung.now.set ≡ true }
     requires second_passes { is_independent (tree_of pair.now.second.now) rung.now.set ≡ true }
     ensures { result ≡ first_failure (
@@ -98,22 +98,22 @@ fn split_failure(
     if let Some(failure) = sum_failure(pair.weights, first_half, second_half, k) {
         return Some(failure);
     }
-    if is_beaten(pair.first, first_half, first, &rung.set) {
+    if first_beaten {
         return Some(Reason::Beaten.at(k, 0));
     }
-    if is_beaten(pair.second, second_half, second, &rung.set) {
+    if second_beaten {
         return Some(Reason::Beaten.at(k, 1));
     }
     None
 }
 
-/// The first clause of rung k of a ladder of two matroids that fails, told by the weights of heaviest sets of each size under
-/// each half of its split. The only error is want of memory.
+/// The first clause of rung k of a ladder of two matroids that fails, told by whether its set is beaten in each under its half of the split.
+/// The only error is want of memory.
 pub(crate) fn priced_rung_failure(
     alloc: Global,
     pair: &WeightedPair,
-    first: &PairWeights,
-    second: &PairWeights,
+    first_beaten: bool,
+    second_beaten: bool,
     k: u32,
     rung: &PricedRung,
 ) -> Result<Option<Failure>, AllocError>
@@ -124,10 +124,8 @@ pub(crate) fn priced_rung_failure(
     requires few { length pair.now.weights.now ≤ most_elements }
     requires small { AreWeightsWithin largest_number pair.now.weights.now }
     requires ranged { IsRangedPricedRung (length pair.now.weights.now) k rung.now }
-    requires first_heaviest { AreHeaviestWeights (element_count (tree_of pair.now.first.now)) (is_independent (tree_of pair.now.first.now))
-        (weight_at rung.now.first) first.now }
-    requires second_heaviest { AreHeaviestWeights (element_count (tree_of pair.now.second.now)) (is_independent (tree_of pair.now.second.now))
-        (weight_at rung.now.second) second.now }
+    requires first_told { IsTold (element_count (tree_of pair.now.first.now)) (is_independent (tree_of pair.now.first.now)) First rung.now first_beaten }
+    requires second_told { IsTold (element_count (tree_of pair.now.second.now)) (is_independent (tree_of pair.now.second.now)) Second rung.now second_beaten }
     ensures { IfOk result (λ found. found ≡ first_failure (priced_rung_clauses (length pair.now.weights.now)
         (is_independent (tree_of pair.now.first.now)) (is_independent (tree_of pair.now.second.now)) pair.now.weights.now k rung.now)) }
 {
@@ -140,5 +138,5 @@ pub(crate) fn priced_rung_failure(
     if !pair.second.independent(alloc, &rung.set)? {
         return Ok(Some(Reason::Dependent.at(k, 1)));
     }
-    Ok(split_failure(pair, first, second, k, rung))
+    Ok(split_failure(pair, first_beaten, second_beaten, k, rung))
 }

@@ -6,9 +6,9 @@ ghost use Rattle.mat_any.specs.{Trees.{element_count, is_independent, IsSound}, 
 ghost use Rattle.mat_greedy.specs.Greedy.{AreHeaviestWeights};
 ghost use Rattle.mat_work.specs.Workers.{AreWorkers};
 ghost use Rattle.mat_cert.specs.Certificates.{IsRangedPart};
-ghost use Rattle.mat_check.specs.Halves.{halves_of, half_at};
+ghost use Rattle.mat_check.specs.Halves.{halves_of, half_at, AreListed};
 
-use crate::ladder::halves::{Side, half, list_halves};
+use crate::ladder::halves::{ListedHalves, Side, half};
 use crate::workers::CheckWorkers;
 use mat_any::AnyMatroid;
 use mat_cert::PricedRung;
@@ -110,20 +110,23 @@ impl RungSums {
     }
 }
 
-/// The weights of heaviest sets under the halves of all rungs, by one run of the greedy algorithm for each half that isn't that of
-/// the rung before. The only error is want of memory.
+/// The weights of heaviest sets under the halves of all rungs, by one run of the greedy algorithm for each listed half. The only error is
+/// want of memory.
 pub(crate) fn rung_sums<R: CheckWorkers>(
     rt: &R,
     alloc: Global,
     m: &AnyMatroid,
     rungs: &[PricedRung],
     side: Side,
+    halves: ListedHalves,
     workers: u32,
 ) -> Result<RungSums, AllocError>
     requires shared { R.shared rt.now }
     requires sound { IsSound (tree_of m.now) }
     requires few { element_count (tree_of m.now) ≤ most_elements }
-    requires no_more { length rungs.now ≤ most_elements + 1 }
+    requires count { length halves.own.items ≡ length rungs.now }
+    requires no_more { length halves.listed.items ≤ most_elements + 1 }
+    requires listed { AreListed (halves_of side rungs.now) halves.listed.items halves.own.items }
     requires ranged { (k : ℕ) → k < length rungs.now → IsRangedPart (element_count (tree_of m.now)) (half_at (halves_of side rungs.now) k) }
     requires workers { AreWorkers workers }
     ensures count { IfOk result (λ sums. length sums ≡ length rungs.now) }
@@ -131,7 +134,6 @@ pub(crate) fn rung_sums<R: CheckWorkers>(
         → AreHeaviestWeights (element_count (tree_of m.now)) (is_independent (tree_of m.now)) (weight_at (half_at (halves_of side rungs.now) k))
         (slice_index_or sums k [])) }
 {
-    let halves = list_halves(alloc, rungs, side)?;
     let runs = GreedyRuns {
         alloc,
         matroid: m,

@@ -10,9 +10,9 @@ ghost use Rattle.mat_check.specs.{
   RungFailures.{first_in_order},
 };
 
+use crate::ladder::beaten::beaten_rungs;
 use crate::ladder::halves::Side;
 use crate::ladder::rung::{WeightedPair, plain_rung_failure, priced_rung_failure};
-use crate::ladder::rung_sums::{RungSums, rung_sums};
 use crate::reason::Failure;
 use crate::workers::CheckWorkers;
 use mat_any::AnyMatroid;
@@ -80,20 +80,19 @@ impl RowJob for PlainFailures<'_> {
 pub struct PricedFailures<'a> {
     alloc: Global,
     pair: &'a WeightedPair<'a>,
-    first: &'a RungSums,
-    second: &'a RungSums,
+    first_beaten: &'a [bool],
+    second_beaten: &'a [bool],
     rungs: &'a [PricedRung],
 }
 
 impl<'a> Model for PricedFailures<'a> {
-    ghost use Rattle.std.specs.Prelude.{◌≡◌, ◌<◌, ℕ, List, [], Option, length, slice_index_or};
-    ghost use Rattle.mat_sets.specs.{Limits.{largest_number}, Weights.{weight_at, AreWeightsWithin}};
+    ghost use Rattle.std.specs.Prelude.{◌≡◌, List, Option, length};
+    ghost use Rattle.mat_sets.specs.{Limits.{largest_number}, Weights.{AreWeightsWithin}};
     ghost use Rattle.mat_any.specs.{Trees.{element_count, is_independent, IsSound}, Views.{tree_of}};
-    ghost use Rattle.mat_greedy.specs.Greedy.{AreHeaviestWeights};
     ghost use Rattle.mat_cert.specs.Certificates.{AreRangedRungs, IsRangedPricedRung};
     ghost use Rattle.mat_check.specs.{
+      BeatenRungs.{AreTold},
       Clauses.{Failure, priced_rung_clauses},
-      Halves.{halves_of, half_at},
       RungFailures.{rungs_failures},
       declared.ladder.halves.Side.TheVariants.{First, Second},
     };
@@ -109,13 +108,9 @@ impl<'a> Model for PricedFailures<'a> {
         × (length job.pair.now.weights.now ≡ element_count (tree_of job.pair.now.second.now))
         × AreWeightsWithin largest_number job.pair.now.weights.now
         × AreRangedRungs (IsRangedPricedRung (length job.pair.now.weights.now)) (length job.pair.now.weights.now) job.rungs.now
-        × (length job.first.now ≡ length job.rungs.now) × (length job.second.now ≡ length job.rungs.now)
-        × ((k : ℕ) → k < length job.rungs.now → AreHeaviestWeights (element_count (tree_of job.pair.now.first.now))
-        (is_independent (tree_of job.pair.now.first.now)) (weight_at (half_at (halves_of First job.rungs.now) k))
-        (slice_index_or job.first.now k []))
-        × ((k : ℕ) → k < length job.rungs.now → AreHeaviestWeights (element_count (tree_of job.pair.now.second.now))
-        (is_independent (tree_of job.pair.now.second.now)) (weight_at (half_at (halves_of Second job.rungs.now) k))
-        (slice_index_or job.second.now k [])) };
+        × (length job.first_beaten.now ≡ length job.rungs.now) × (length job.second_beaten.now ≡ length job.rungs.now)
+        × AreTold (element_count (tree_of job.pair.now.first.now)) (is_independent (tree_of job.pair.now.first.now)) First job.rungs.now job.first_beaten.now
+        × AreTold (element_count (tree_of job.pair.now.second.now)) (is_independent (tree_of job.pair.now.second.now)) Second job.rungs.now job.second_beaten.now };
 }
 
 impl RowJob for PricedFailures<'_> {
@@ -129,9 +124,9 @@ impl RowJob for PricedFailures<'_> {
 
     fn row(&self, k: u32) -> Result<Option<Failure>, AllocError> {
         let rung = &self.rungs[k as usize];
-        let first = self.first.of_rung(k);
-        let second = self.second.of_rung(k);
-        priced_rung_failure(self.alloc, self.pair, first, second, k, rung)
+        let first_beaten = self.first_beaten[k as usize];
+        let second_beaten = self.second_beaten[k as usize];
+        priced_rung_failure(self.alloc, self.pair, first_beaten, second_beaten, k, rung)
     }
 }
 
@@ -178,10 +173,9 @@ pub(crate) fn plain_rungs_failure<R: CheckWorkers>(
     Ok(first_found(&failures))
 }
 
-/// The first clause of the rungs of a ladder of two matroids that fails: two questions of independence for each rung, and one
-/// run of the greedy algorithm for each half of a split that isn't that of the rung before. First the workers share these runs, for one
-/// matroid and then for the other, and then the rungs: all are judged, and the first failure in their order is told. The only error
-/// is want of memory.
+/// The first clause of the rungs of a ladder of two matroids that fails: two questions of independence for each rung, and in each matroid
+/// whether the set is beaten under its half of the split. First the workers share what tells this, for one matroid and then for the other, and
+/// then the rungs: all are judged, and the first failure in their order is told. The only error is want of memory.
 pub(crate) fn priced_rungs_failure<R: CheckWorkers>(
     rt: &R,
     alloc: Global,
@@ -201,13 +195,13 @@ pub(crate) fn priced_rungs_failure<R: CheckWorkers>(
         ≡ first_failure (numbered_clauses (priced_rung_clauses (length pair.now.weights.now) (is_independent (tree_of pair.now.first.now))
         (is_independent (tree_of pair.now.second.now)) pair.now.weights.now) 0 rungs.now)) }
 {
-    let first = rung_sums(rt, alloc, pair.first, rungs, Side::First, workers)?;
-    let second = rung_sums(rt, alloc, pair.second, rungs, Side::Second, workers)?;
+    let first = beaten_rungs(rt, alloc, pair.first, rungs, Side::First, workers)?;
+    let second = beaten_rungs(rt, alloc, pair.second, rungs, Side::Second, workers)?;
     let job = PricedFailures {
         alloc,
         pair,
-        first: &first,
-        second: &second,
+        first_beaten: &first,
+        second_beaten: &second,
         rungs,
     };
     let failures = rt.priced_failures(alloc, &job, rungs.len() as u32, workers)?;

@@ -13,8 +13,8 @@ use mat_laws::Matroid;
 use mat_sets::{ElemSet, PairWeights, Weight, weigh};
 use std::alloc::{AllocError, Global};
 
-// Whether a set weighs less than this.
-fn is_lighter(set: &ElemSet, weights: &[Weight], other: Weight) -> bool
+/// Whether a set weighs less than this.
+pub(crate) fn is_lighter(set: &ElemSet, weights: &[Weight], other: Weight) -> bool
     requires inside { AllBelow (length weights.now) set.now }
     requires few { length set.now ≤ most_elements }
     requires small { AreWeightsWithin largest_number weights.now }
