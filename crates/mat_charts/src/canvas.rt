@@ -3,7 +3,7 @@
 ghost use Rattle.std.specs.Prelude.{◌≡◌, [], ◌≤ℤ◌, OnOk};
 ghost use Rattle.mat_drawing.specs.Markup.{AddsMarkup};
 
-use mat_drawing::{Drawing, Point, Units};
+use mat_drawing::{Drawing, Look, Point, Units};
 use mat_text::Text;
 use std::alloc::{AllocError, Global};
 use std::str;
@@ -105,7 +105,7 @@ impl Canvas {
         self.widen(Units::of(longest_line(words)) * 8);
         self.drawing.append(part)?;
         let from = Point { x: MARGIN, y: from };
-        let end = self.drawing.lines(from, words, 18, &[])?;
+        let end = self.drawing.lines(from, words, 18, &Look::PLAIN)?;
         self.top = end.y + 20;
         Ok(())
     }

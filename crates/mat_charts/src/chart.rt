@@ -3,7 +3,7 @@
 use crate::canvas::MARGIN;
 use crate::ladder::Ladder;
 use crate::measures::{longest_element, step, weight_at, weight_bytes};
-use mat_drawing::{Anchor, Area, Attribute, Colour, Drawing, Point, Shape, Units, polyline};
+use mat_drawing::{Anchor, Area, Colour, Drawing, Look, Point, Shape, Units, polyline};
 use mat_reasons::Step;
 use mat_text::Spelled;
 use std::alloc::{AllocError, Global};
@@ -169,12 +169,12 @@ impl<'a> Chart<'a> {
             let zero = self.height_of(0);
             drawing.path(
                 format_args!("M{left} {zero} H{right}"),
-                &[Attribute::Stroke(Colour::GREY)],
+                &Look::PLAIN.stroke(Colour::GREY),
             )?;
         }
         drawing.path(
             format_args!("M{left} {top} V{foot} H{right}"),
-            &[Attribute::NoFill, Attribute::Stroke(Colour::BLACK)],
+            &Look::PLAIN.no_fill().stroke(Colour::BLACK),
         )
     }
 
@@ -184,7 +184,7 @@ impl<'a> Chart<'a> {
             x: self.left - 6,
             y: self.height_of(number) + 4,
         };
-        drawing.text(at, number, &[Attribute::Anchor(Anchor::End)])
+        drawing.text(at, number, &Look::PLAIN.anchor(Anchor::End))
     }
 
     // Draws the scale of weights: its least and its greatest number.
@@ -193,7 +193,7 @@ impl<'a> Chart<'a> {
             x: self.left - 6,
             y: self.top - 14,
         };
-        drawing.text(at, "weight", &[Attribute::Anchor(Anchor::End)])?;
+        drawing.text(at, "weight", &Look::PLAIN.anchor(Anchor::End))?;
         self.draw_mark(drawing, self.low)?;
         if self.low < self.high {
             self.draw_mark(drawing, self.high)?;
@@ -208,14 +208,8 @@ impl<'a> Chart<'a> {
             points.push(self.point(k, step))?;
         }
         let curve = polyline(drawing.alloc(), &points)?;
-        drawing.path(
-            curve,
-            &[
-                Attribute::NoFill,
-                Attribute::Stroke(Colour::BLUE),
-                Attribute::StrokeWidth(Units(2)),
-            ],
-        )
+        let look = Look::PLAIN.no_fill().stroke(Colour::BLUE);
+        drawing.path(curve, &look.stroke_width(Units(2)))
     }
 
     // Draws the dot of a step on the curve, and its weight, where there is room.
@@ -236,16 +230,14 @@ impl<'a> Chart<'a> {
             };
             drawing.titled(
                 Shape::Circle(at, radius),
-                &[Attribute::Fill(fill)],
+                &Look::PLAIN.fill(fill),
                 format_args!("size {k} weighs {weight}"),
             )?;
         }
         let long = Units::of(weight_bytes(drawing.alloc(), step.weight)?) * 8;
         if is_best || self.column >= long {
-            let mut look = vec![in drawing.alloc(); Attribute::Anchor(Anchor::Middle)]?;
-            if is_best {
-                look.push(Attribute::Bold)?;
-            }
+            let middle = Look::PLAIN.anchor(Anchor::Middle);
+            let look = if is_best { middle.bold() } else { middle };
             drawing.text(at.below(-10), weight, &look)?;
         }
         Ok(())
@@ -255,10 +247,10 @@ impl<'a> Chart<'a> {
     fn draw_sizes(&self, drawing: &mut Drawing) -> Result<(), AllocError> {
         let y = self.foot() + 16;
         let x = self.left - 6;
-        drawing.text(Point { x, y }, "size", &[Attribute::Anchor(Anchor::End)])?;
+        drawing.text(Point { x, y }, "size", &Look::PLAIN.anchor(Anchor::End))?;
         for k in (0..self.ladder.steps.len()).step_by(step(self.column, 28)) {
             let x = self.middle(k);
-            drawing.text(Point { x, y }, k, &[Attribute::Anchor(Anchor::Middle)])?;
+            drawing.text(Point { x, y }, k, &Look::PLAIN.anchor(Anchor::Middle))?;
         }
         Ok(())
     }

@@ -5,7 +5,7 @@ ghost use Rattle.mat_drawing.specs.Markup.{AddsMarkup};
 
 use crate::canvas::{Canvas, MARGIN};
 use crate::measures::{longest_element, longest_weight, step, weight_at};
-use mat_drawing::{Anchor, Area, Attribute, Colour, Drawing, Point, Shape, Units, strokes};
+use mat_drawing::{Anchor, Area, Colour, Drawing, Look, Point, Shape, Units, strokes};
 use mat_sets::{ElemSet, Weight};
 use mat_text::{Called, Noun, Spelled, Text, is_in_some};
 use std::alloc::{AllocError, Global};
@@ -102,14 +102,14 @@ impl<'a> Blocks<'a> {
         drawing.text(
             Point { x, y },
             self.grid.noun.word(),
-            &[Attribute::Anchor(Anchor::End)],
+            &Look::PLAIN.anchor(Anchor::End),
         )?;
         for i in (0..self.grid.parts.len()).step_by(step(self.column, 24)) {
             let x = left + self.column * Units::of(i) + self.column.half();
             drawing.text(
                 Point { x, y },
                 i.saturating_add(1),
-                &[Attribute::Anchor(Anchor::Middle)],
+                &Look::PLAIN.anchor(Anchor::Middle),
             )?;
         }
         Ok(())
@@ -124,13 +124,14 @@ impl<'a> Blocks<'a> {
         e: u32,
     ) -> Result<(), AllocError> {
         let name = self.grid.called.element(e as usize);
-        let dim = [Attribute::Anchor(Anchor::End), Attribute::Fill(Colour::DIM)];
+        let end = Look::PLAIN.anchor(Anchor::End);
+        let dim = end.fill(Colour::DIM);
         let at = Point {
             x: left - 12 - self.digits * 8,
             y: y + 12,
         };
         if is_in_some(self.grid.parts, e) {
-            drawing.text(at, name, &[Attribute::Anchor(Anchor::End)])?;
+            drawing.text(at, name, &end)?;
         } else {
             drawing.text(at, name, &dim)?;
         }
@@ -165,7 +166,7 @@ impl<'a> Blocks<'a> {
                 let number = c.saturating_add(1);
                 drawing.titled(
                     Shape::Rectangle(square),
-                    &[Attribute::Fill(Colour::numbered(c))],
+                    &Look::PLAIN.fill(Colour::numbered(c)),
                     format_args!("{name} in {word} {number}"),
                 )?;
             }
@@ -210,7 +211,7 @@ impl<'a> Blocks<'a> {
         let across = Point { x: left, y: bottom };
         drawing.path(
             format_args!("{down} M{from} H{right} M{across} H{right}"),
-            &[Attribute::NoFill, Attribute::Stroke(Colour::GREY)],
+            &Look::PLAIN.no_fill().stroke(Colour::GREY),
         )
     }
 

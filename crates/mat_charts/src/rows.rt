@@ -7,7 +7,7 @@ use crate::canvas::Canvas;
 use crate::chart::Chart;
 use crate::ladder::Ladder;
 use crate::measures::weight_at;
-use mat_drawing::{Anchor, Area, Attribute, Colour, Drawing, Point, Units, strokes};
+use mat_drawing::{Anchor, Area, Colour, Drawing, Look, Point, Units, strokes};
 use mat_text::{Spelled, Text, many};
 use std::alloc::{AllocError, Global};
 
@@ -17,16 +17,18 @@ fn draw_names(drawing: &mut Drawing, chart: &Chart<'_>) -> Result<(), AllocError
     for (i, e) in chart.rows.iter().enumerate() {
         let y = chart.row_at(i) + 12;
         let x = chart.left - 12 - chart.digits * 8;
-        let mut look = vec![in drawing.alloc(); Attribute::Anchor(Anchor::End)]?;
-        if ladder.holds(ladder.best, *e) {
-            look.push(Attribute::Bold)?;
-        }
+        let end = Look::PLAIN.anchor(Anchor::End);
+        let look = if ladder.holds(ladder.best, *e) {
+            end.bold()
+        } else {
+            end
+        };
         drawing.text(Point { x, y }, ladder.called.element(*e as usize), &look)?;
         let x = chart.left - 6;
         drawing.text(
             Point { x, y },
             Spelled(weight_at(ladder.weights, *e)),
-            &[Attribute::Anchor(Anchor::End), Attribute::Fill(Colour::DIM)],
+            &end.fill(Colour::DIM),
         )?;
     }
     Ok(())
@@ -100,10 +102,7 @@ fn draw_gaps(drawing: &mut Drawing, chart: &Chart<'_>) -> Result<(), AllocError>
     let gaps = strokes(drawing.alloc(), from, chart.column, count, chart.end())?;
     drawing.path(
         gaps,
-        &[
-            Attribute::Stroke(Colour::WHITE),
-            Attribute::StrokeWidth(Units(2)),
-        ],
+        &Look::PLAIN.stroke(Colour::WHITE).stroke_width(Units(2)),
     )
 }
 

@@ -5,7 +5,7 @@ ghost use Rattle.mat_drawing.specs.Markup.{AddsMarkup};
 
 use crate::canvas::{Canvas, MARGIN};
 use crate::measures::weight_at;
-use mat_drawing::{Anchor, Area, Attribute, Colour, Drawing, Point, Shape, Units};
+use mat_drawing::{Anchor, Area, Colour, Drawing, Look, Point, Shape, Units};
 use mat_reasons::{columns_inside, rows_outside};
 use mat_sets::{ElemSet, Pairs, Weight};
 use mat_text::{Called, Spelled, Text};
@@ -239,7 +239,7 @@ impl<'a> Fields<'a> {
             drawing.text(
                 at,
                 format_args!("{word}{row}"),
-                &[Attribute::Anchor(Anchor::End)],
+                &Look::PLAIN.anchor(Anchor::End),
             )?;
         }
         Ok(())
@@ -252,7 +252,7 @@ impl<'a> Fields<'a> {
                 x: self.column_at(i) + 11,
                 y: self.top() - 6,
             };
-            drawing.text(at, column, &[Attribute::Turned(Units(-90), at)])?;
+            drawing.text(at, column, &Look::PLAIN.turned(Units(-90), at))?;
         }
         Ok(())
     }
@@ -261,10 +261,10 @@ impl<'a> Fields<'a> {
     fn draw_few_columns(&self, drawing: &mut Drawing) -> Result<(), AllocError> {
         let y = self.top() - 6;
         let x = LEFT - 6;
-        drawing.text(Point { x, y }, "column", &[Attribute::Anchor(Anchor::End)])?;
+        drawing.text(Point { x, y }, "column", &Look::PLAIN.anchor(Anchor::End))?;
         for (i, column) in self.lines.columns.as_slice().iter().enumerate() {
             let x = self.column_at(i) + self.width.half();
-            drawing.text(Point { x, y }, column, &[Attribute::Anchor(Anchor::Middle)])?;
+            drawing.text(Point { x, y }, column, &Look::PLAIN.anchor(Anchor::Middle))?;
         }
         Ok(())
     }
@@ -285,15 +285,11 @@ impl<'a> Fields<'a> {
             x: at.x + self.width.half(),
             y: at.y + 14,
         };
+        let look = Look::PLAIN.anchor(Anchor::Middle);
         if self.table.best.contains(e) {
-            let look = [
-                Attribute::Anchor(Anchor::Middle),
-                Attribute::Fill(Colour::WHITE),
-                Attribute::Bold,
-            ];
-            drawing.text(middle, label, &look)
+            drawing.text(middle, label, &look.fill(Colour::WHITE).bold())
         } else {
-            drawing.text(middle, label, &[Attribute::Anchor(Anchor::Middle)])
+            drawing.text(middle, label, &look)
         }
     }
 
@@ -319,7 +315,7 @@ impl<'a> Fields<'a> {
         let weight = Spelled(weight_at(table.weights, e));
         drawing.titled(
             Shape::Rectangle(area),
-            &[Attribute::Fill(fill), Attribute::Stroke(Colour::DIM)],
+            &Look::PLAIN.fill(fill).stroke(Colour::DIM),
             format_args!("row {row}, column {column}: {name}, weight {weight}"),
         )?;
         if self.lines.are_many() {

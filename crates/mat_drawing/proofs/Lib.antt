@@ -2,3 +2,4 @@ pub mod Pieces
 pub mod Plain
 pub mod Printable
 pub mod Lowered
+pub mod Distinct

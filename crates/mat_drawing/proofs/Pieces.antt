@@ -1,12 +1,15 @@
 -- Each text that is made is spelled by a tree: the trees of its pieces, beside or within one another.
-use Rattle.std.proofs.Common.{◌≡◌, ℕ, Bool, true, false, ◌&&◌, if◌then◌else◌, List, [], ◌∷◌, ◌++◌, codes, map, refl, ap, sym, subst, ◌∙◌, append_assoc, append-nil}
+use Rattle.std.proofs.Common.{◌≡◌, ℕ, Bool, true, false, ◌&&◌, if◌then◌else◌, Some, None, List, [], ◌∷◌, ◌++◌, codes, map, refl, ap, sym, subst, ◌∙◌, append_assoc, append-nil}
 use Rattle.std.specs.List.{flat_map, list_all}
 use Rattle.std.proofs.lemmas.Bool.{and_from}
 use Rattle.std.proofs.lemmas.Grind.{flat_map-append}
+use Rattle.std.proofs.lemmas.List.{map-append}
 use Rattle.std.proofs.lemmas.List.Folds.{list_all-append}
+use Rattle.mat_drawing.proofs.Distinct.{attributes_distinct}
+use Rattle.mat_drawing.specs.Attributes.{attribute_names}
 use Rattle.mat_drawing.specs.Escaping.{entity, escaped}
-use Rattle.mat_drawing.specs.Markup.{nothing, words, empty_element, element, beside, is_attribute, is_well_formed, opening, spelled, spelled_attribute, AddsAttributes, AddsMarkup, IsElement, IsMarkup}
-use Rattle.mat_drawing.specs.Names.{is_name, printed}
+use Rattle.mat_drawing.specs.Markup.{nothing, words, empty_element, element, beside, are_attributes, attribute_of, attributes_of, is_attribute, is_well_formed, opening, spelled, spelled_attribute, AddsAttributes, AddsMarkup, IsElement, IsMarkup}
+use Rattle.mat_drawing.specs.Names.{are_distinct, is_name, printed}
 use Rattle.mat_text.specs.Texts.{is_text_byte}
 
 byte_by_test : (b : ℕ) (p : Bool) → is_text_byte b ≡ p → is_text_byte (if p then b else 63) ≡ true
@@ -46,30 +49,44 @@ pub lines_markup : (lines text : List ℕ) → IsMarkup lines → text ≡ 10 �
 lines_markup lines text m e = subst IsMarkup (sym e) (beside_markup (10 ∷ []) lines line_feed_markup m)
 
 pub attribute_added : (old new name value : List ℕ) → is_name name ≡ true
-    → new ≡ ((((old ++ 32 ∷ []) ++ name) ++ codes "=\"") ++ escaped (map printed value)) ++ 34 ∷ [] → AddsAttributes old new
+    → new ≡ ((((old ++ 32 ∷ []) ++ name) ++ codes "=\"") ++ escaped (map printed value)) ++ 34 ∷ [] → AddsAttributes (name ∷ []) old new
 attribute_added old new name value h e =
     let parts = and_from (is_name name) (list_all is_text_byte (map printed value)) h (printed_words value) in
     record {
-      attributes = (name, map printed value) ∷ [];
+      choices = (name, Some (map printed value)) ∷ [];
+      named = refl;
       well_formed = and_from (is_attribute (name, map printed value)) true parts refl;
       told = e ∙ simp append_assoc;
     }
 
-pub more_added : (first second third : List ℕ) → AddsAttributes first second → AddsAttributes second third → AddsAttributes first third
-more_added first second third f g = record {
-  attributes = f.attributes ++ g.attributes;
-  well_formed = rw (list_all-append is_attribute f.attributes g.attributes) (and_from (list_all is_attribute f.attributes) (list_all is_attribute g.attributes) f.well_formed g.well_formed);
-  told = g.told ∙ (ap (λ (t : List ℕ). t ++ flat_map spelled_attribute g.attributes) f.told
-      ∙ (append_assoc first _ _ ∙ ap (λ (t : List ℕ). first ++ t) (sym (flat_map-append spelled_attribute f.attributes g.attributes))));
-}
+pub none_added : (name text : List ℕ) → AddsAttributes (name ∷ []) text text
+none_added name text = record { choices = (name, None) ∷ []; named = refl; well_formed = refl; told = simp append-nil }
+
+pub more_added : {some others : List (List ℕ)} {first second third : List ℕ} → AddsAttributes some first second → AddsAttributes others second third
+    → AddsAttributes (some ++ others) first third
+more_added {some} {others} {first} {second} {third} f g =
+    let both : attributes_of (f.choices ++ g.choices) ≡ attributes_of f.choices ++ attributes_of g.choices = flat_map-append (λ c. attribute_of c.0 c.1) f.choices g.choices in
+    record {
+      choices = f.choices ++ g.choices;
+      named = map-append (λ c. c.0) f.choices g.choices ∙ rw f.named (rw g.named refl);
+      well_formed = rw both (rw (list_all-append is_attribute (attributes_of f.choices) (attributes_of g.choices))
+          (and_from (list_all is_attribute (attributes_of f.choices)) (list_all is_attribute (attributes_of g.choices)) f.well_formed g.well_formed));
+      told = g.told ∙ (ap (λ (t : List ℕ). t ++ flat_map spelled_attribute (attributes_of g.choices)) f.told
+          ∙ (append_assoc first _ _
+          ∙ ap (λ (t : List ℕ). first ++ t) (sym (ap (flat_map spelled_attribute) both ∙ flat_map-append spelled_attribute (attributes_of f.choices) (attributes_of g.choices)))));
+    }
 
 -- what is known of the name and the attributes of an element
-tag_well_formed : (name tag : List ℕ) → is_name name ≡ true → (a : AddsAttributes (60 ∷ name) tag) → (is_name name && list_all is_attribute a.attributes) ≡ true
-tag_well_formed name tag h a = and_from (is_name name) (list_all is_attribute a.attributes) h a.well_formed
+tag_well_formed : (name tag : List ℕ) → is_name name ≡ true → (a : AddsAttributes attribute_names (60 ∷ name) tag)
+    → (is_name name && are_attributes (attributes_of a.choices)) ≡ true
+tag_well_formed name tag h a =
+    let own = attributes_of a.choices in
+    let all = and_from (list_all is_attribute own) (are_distinct (map (λ b. b.0) own)) a.well_formed (attributes_distinct a.choices a.named) in
+    and_from (is_name name) (are_attributes own) h all
 
-pub empty_element_markup : (name tag text : List ℕ) → is_name name ≡ true → AddsAttributes (60 ∷ name) tag → text ≡ tag ++ codes "/>" → IsMarkup text
+pub empty_element_markup : (name tag text : List ℕ) → is_name name ≡ true → AddsAttributes attribute_names (60 ∷ name) tag → text ≡ tag ++ codes "/>" → IsMarkup text
 empty_element_markup name tag text h a e = record {
-  tree = empty_element name a.attributes;
+  tree = empty_element name (attributes_of a.choices);
   well_formed = tag_well_formed name tag h a;
   told = e ∙ ap (λ (t : List ℕ). t ++ codes "/>") a.told;
 }
@@ -78,13 +95,13 @@ element_told : (name tag inside opened within text : List ℕ) → tag ≡ opene
     → text ≡ opened ++ codes ">" ++ within ++ codes "</" ++ name ++ codes ">"
 element_told name tag inside opened within text e f g = g ∙ rw (e, f) (simp append_assoc)
 
-pub element_spelled : (name tag inside text : List ℕ) → is_name name ≡ true → AddsAttributes (60 ∷ name) tag → IsMarkup inside
+pub element_spelled : (name tag inside text : List ℕ) → is_name name ≡ true → AddsAttributes attribute_names (60 ∷ name) tag → IsMarkup inside
     → text ≡ ((((tag ++ 62 ∷ []) ++ inside) ++ codes "</") ++ name) ++ 62 ∷ [] → IsElement name text
 element_spelled name tag inside text h a m e = record {
-  attributes = a.attributes;
+  attributes = attributes_of a.choices;
   inside = m.tree;
-  well_formed = and_from (is_name name && list_all is_attribute a.attributes) (is_well_formed m.tree) (tag_well_formed name tag h a) m.well_formed;
-  told = element_told name tag inside (opening name a.attributes) (spelled m.tree) text a.told m.told e;
+  well_formed = and_from (is_name name && are_attributes (attributes_of a.choices)) (is_well_formed m.tree) (tag_well_formed name tag h a) m.well_formed;
+  told = element_told name tag inside (opening name (attributes_of a.choices)) (spelled m.tree) text a.told m.told e;
 }
 
 pub element_markup : (name text : List ℕ) → IsElement name text → IsMarkup text

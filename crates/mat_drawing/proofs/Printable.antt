@@ -1,12 +1,12 @@
 -- Well-formed markup is printable: names, entities and what stands around them are.
-use Rattle.std.proofs.Common.{◌≡◌, ℕ, Bool, true, false, ◌==◌, ◌&&◌, if◌then◌else◌, List, [], ◌∷◌, ◌++◌, codes, refl, sym, subst, ◌∙◌, arith}
+use Rattle.std.proofs.Common.{◌≡◌, ℕ, Bool, true, false, ◌==◌, ◌&&◌, if◌then◌else◌, List, [], ◌∷◌, ◌++◌, codes, map, refl, sym, subst, ◌∙◌, arith}
 use Rattle.std.specs.List.{flat_map, list_all}
 use Rattle.std.proofs.lemmas.Bool.{and_from, and_parts}
 use Rattle.std.proofs.lemmas.Bool.Decides.{nat_tests}
 use Rattle.std.proofs.lemmas.List.Folds.{list_all-append}
 use Rattle.mat_drawing.specs.Escaping.{entity, escaped}
-use Rattle.mat_drawing.specs.Markup.{Markup, nothing, words, empty_element, element, beside, is_attribute, is_well_formed, opening, spelled, spelled_attribute, IsMarkup}
-use Rattle.mat_drawing.specs.Names.{is_letter, is_name, is_name_byte}
+use Rattle.mat_drawing.specs.Markup.{Markup, nothing, words, empty_element, element, beside, are_attributes, is_attribute, is_well_formed, opening, spelled, spelled_attribute, IsMarkup}
+use Rattle.mat_drawing.specs.Names.{are_distinct, is_letter, is_name, is_name_byte}
 use Rattle.mat_text.specs.Texts.{is_text_byte}
 
 -- two texts beside one another
@@ -54,18 +54,19 @@ attributes_printable (a ∷ attributes) h =
     (both (a.0 ++ codes "=\"" ++ escaped a.1) (codes "\"") (both (a.0 ++ codes "=\"") (escaped a.1) (both a.0 (codes "=\"") (name_printable a.0 own.0) refl) (escaped_printable a.1 own.1)) refl)
     (attributes_printable attributes parts.1)
 
-opening_printable : (name : List ℕ) (attributes : List (List ℕ × List ℕ)) → (is_name name && list_all is_attribute attributes) ≡ true → list_all is_text_byte (opening name attributes) ≡ true
+opening_printable : (name : List ℕ) (attributes : List (List ℕ × List ℕ)) → (is_name name && are_attributes attributes) ≡ true → list_all is_text_byte (opening name attributes) ≡ true
 opening_printable name attributes h =
-    let parts = and_parts (is_name name) (list_all is_attribute attributes) h in
-    both name (flat_map spelled_attribute attributes) (name_printable name parts.0) (attributes_printable attributes parts.1)
+    let parts = and_parts (is_name name) (are_attributes attributes) h in
+    let own = and_parts (list_all is_attribute attributes) (are_distinct (map (λ a. a.0) attributes)) parts.1 in
+    both name (flat_map spelled_attribute attributes) (name_printable name parts.0) (attributes_printable attributes own.0)
 
 spelled_printable : (m : Markup) → is_well_formed m ≡ true → list_all is_text_byte (spelled m) ≡ true
 spelled_printable nothing h = refl
 spelled_printable (words w) h = escaped_printable w h
 spelled_printable (empty_element name attributes) h = both (opening name attributes) (codes "/>") (opening_printable name attributes h) refl
 spelled_printable (element name attributes inside) h =
-    let parts = and_parts (is_name name && list_all is_attribute attributes) (is_well_formed inside) h in
-    let tag = and_parts (is_name name) (list_all is_attribute attributes) parts.0 in
+    let parts = and_parts (is_name name && are_attributes attributes) (is_well_formed inside) h in
+    let tag = and_parts (is_name name) (are_attributes attributes) parts.0 in
     let start = both (opening name attributes) (codes ">") (opening_printable name attributes parts.0) refl in
     let opened = opening name attributes ++ codes ">" in
     let filled = both (opened ++ spelled inside) (codes "</") (both opened (spelled inside) start (spelled_printable inside parts.1)) refl in

@@ -3,3 +3,4 @@ pub mod Markup
 pub mod Names
 pub mod Drawn
 pub mod Colours
+pub mod Attributes

@@ -1,5 +1,5 @@
 -- Names in markup, and the bytes that may be printed.
-use Rattle.std.specs.Prelude.{ℕ, ◌==◌, ◌||◌, ◌&&◌, nat_le, Bool, false, if◌then◌else◌, List, [], ◌∷◌}
+use Rattle.std.specs.Prelude.{ℕ, ◌==◌, ◌||◌, ◌&&◌, not, nat_le, Bool, true, false, if◌then◌else◌, List, [], ◌∷◌, bytes_eq}
 use Rattle.std.specs.List.{list_all}
 use Rattle.mat_text.specs.Texts.{is_text_byte}
 
@@ -19,3 +19,13 @@ is_name_byte b = is_letter b || (nat_le 48 b && nat_le b 57) || b == 45
 abbrev pub is_name : List ℕ → Bool
 is_name [] = false
 is_name (b ∷ bytes) = is_letter b && list_all is_name_byte bytes
+
+-- whether a name is one of these
+abbrev pub is_among : List ℕ → List (List ℕ) → Bool
+is_among name [] = false
+is_among name (other ∷ names) = bytes_eq name other || is_among name names
+
+-- whether no name stands twice
+abbrev pub are_distinct : List (List ℕ) → Bool
+are_distinct [] = true
+are_distinct (name ∷ names) = not (is_among name names) && are_distinct names

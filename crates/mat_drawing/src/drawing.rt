@@ -10,13 +10,15 @@ ghost use Rattle.mat_drawing.specs.Markup.{AddsMarkup, IsMarkup, IsPicture};
 ghost use Rattle.mat_text.specs.Texts.{is_text_byte};
 
 use crate::area::Area;
-use crate::attribute::Attribute;
+use crate::attributes::Attributes;
 use crate::colour::Colour;
 use crate::elements::{document, element, empty_element};
 use crate::escaping::words_of;
+use crate::look::Look;
 use crate::point::Point;
 use crate::shape::Shape;
 use crate::units::Units;
+use crate::values::{ArrowName, ViewBox};
 use std::alloc::{AllocError, Global};
 use std::fmt::Display;
 use std::marker::Model;
@@ -41,15 +43,10 @@ impl Model for Drawing {
 }
 
 // The element of a shape without a title.
-fn untitled(
-    alloc: Global,
-    shape: Shape<'_>,
-    attributes: &[Attribute<'_>],
-) -> Result<Vec<u8>, AllocError>
+fn untitled(alloc: Global, shape: Shape<'_>, look: &Look) -> Result<Vec<u8>, AllocError>
     ensures { IfOk result (λ text. IsMarkup text.items) }
 {
-    let all = shape.attributes(alloc, attributes)?;
-    empty_element(alloc, shape.name(), &all)
+    empty_element(alloc, shape.name(), &shape.attributes(look))
 }
 
 impl Drawing {
@@ -108,14 +105,17 @@ impl Drawing {
         &mut self,
         at: Point,
         words: W,
-        attributes: &[Attribute<'_>],
+        look: &Look,
     ) -> Result<(), AllocError>
         ensures { OnOk result (AddsMarkup self.old.markup self.new.markup) }
     {
         let words = words_of(self.alloc, words)?;
-        let mut all = vec![in self.alloc; Attribute::X(at.x), Attribute::Y(at.y)]?;
-        all.extend_from_slice(attributes)?;
-        let text = element(self.alloc, "text", &all, &words)?;
+        let attributes = Attributes {
+            x: Some(at.x),
+            y: Some(at.y),
+            ..Attributes::of(look)
+        };
+        let text = element(self.alloc, "text", &attributes, &words)?;
         self.add_line(&text)
     }
 
@@ -126,7 +126,7 @@ impl Drawing {
         from: Point,
         words: &str,
         apart: i64,
-        attributes: &[Attribute<'_>],
+        look: &Look,
     ) -> Result<Point, AllocError>
         ensures added { OnOk result (AddsMarkup self.old.markup self.new.markup) }
         ensures across { IfOk result (λ end. end.x ≡ from.x) }
@@ -134,36 +134,32 @@ impl Drawing {
     {
         let mut at = from;
         for line in words.lines() {
-            self.text(at, line, attributes)?;
+            self.text(at, line, look)?;
             at = at.below(apart);
         }
         Ok(at)
     }
 
     /// Adds a shape. The only error is want of memory.
-    pub fn shape(
-        &mut self,
-        shape: Shape<'_>,
-        attributes: &[Attribute<'_>],
-    ) -> Result<(), AllocError>
+    pub fn shape(&mut self, shape: Shape<'_>, look: &Look) -> Result<(), AllocError>
         ensures { OnOk result (AddsMarkup self.old.markup self.new.markup) }
     {
-        self.add_line(&untitled(self.alloc, shape, attributes)?)
+        self.add_line(&untitled(self.alloc, shape, look)?)
     }
 
     /// Adds a shape that has a title. The only error is want of memory.
     pub fn titled<W: Display + Drop>(
         &mut self,
         shape: Shape<'_>,
-        attributes: &[Attribute<'_>],
+        look: &Look,
         title: W,
     ) -> Result<(), AllocError>
         ensures { OnOk result (AddsMarkup self.old.markup self.new.markup) }
     {
         let words = words_of(self.alloc, title)?;
-        let title = element(self.alloc, "title", &[], &words)?;
-        let all = shape.attributes(self.alloc, attributes)?;
-        let shape = element(self.alloc, shape.name(), &all, &title)?;
+        let none = Attributes::of(&Look::PLAIN);
+        let title = element(self.alloc, "title", &none, &words)?;
+        let shape = element(self.alloc, shape.name(), &shape.attributes(look), &title)?;
         self.add_line(&shape)
     }
 
@@ -171,30 +167,22 @@ impl Drawing {
     pub fn rectangle(&mut self, area: Area, fill: Colour) -> Result<(), AllocError>
         ensures { OnOk result (AddsMarkup self.old.markup self.new.markup) }
     {
-        self.shape(Shape::Rectangle(area), &[Attribute::Fill(fill)])
+        self.shape(Shape::Rectangle(area), &Look::PLAIN.fill(fill))
     }
 
     /// Adds a path of this data. The only error is want of memory.
-    pub fn path<D: Display + Drop>(
-        &mut self,
-        data: D,
-        attributes: &[Attribute<'_>],
-    ) -> Result<(), AllocError>
+    pub fn path<D: Display + Drop>(&mut self, data: D, look: &Look) -> Result<(), AllocError>
         ensures { OnOk result (AddsMarkup self.old.markup self.new.markup) }
     {
         let data = data.to_string(self.alloc)?;
-        self.shape(Shape::Path(&data), attributes)
+        self.shape(Shape::Path(&data), look)
     }
 
-    /// Adds the lines of another drawing, to all of which these attributes apply. The only error is want of memory.
-    pub fn group(
-        &mut self,
-        attributes: &[Attribute<'_>],
-        inside: &Drawing,
-    ) -> Result<(), AllocError>
+    /// Adds the lines of another drawing, all of which look so where they do not tell otherwise. The only error is want of memory.
+    pub fn group(&mut self, look: &Look, inside: &Drawing) -> Result<(), AllocError>
         ensures { OnOk result (AddsMarkup self.old.markup self.new.markup) }
     {
-        let group = document(self.alloc, "g", attributes, inside.markup())?;
+        let group = document(self.alloc, "g", &Attributes::of(look), inside.markup())?;
         self.add(&group)
     }
 
@@ -202,7 +190,8 @@ impl Drawing {
     pub fn definitions(&mut self, inside: &Drawing) -> Result<(), AllocError>
         ensures { OnOk result (AddsMarkup self.old.markup self.new.markup) }
     {
-        let definitions = document(self.alloc, "defs", &[], inside.markup())?;
+        let none = Attributes::of(&Look::PLAIN);
+        let definitions = document(self.alloc, "defs", &none, inside.markup())?;
         self.add(&definitions)
     }
 
@@ -211,16 +200,17 @@ impl Drawing {
     pub fn arrow_head(&mut self, number: usize, data: &str, fill: Colour) -> Result<(), AllocError>
         ensures { OnOk result (AddsMarkup self.old.markup self.new.markup) }
     {
-        let attributes = [
-            Attribute::ArrowNumber(number),
-            Attribute::FixedSize,
-            Attribute::MarkerWidth(Units(12)),
-            Attribute::MarkerHeight(Units(10)),
-            Attribute::MarkerX(Units(18)),
-            Attribute::MarkerY(Units(5)),
-            Attribute::Directed,
-        ];
-        let path = untitled(self.alloc, Shape::Path(data), &[Attribute::Fill(fill)])?;
+        let attributes = Attributes {
+            arrow_name: Some(ArrowName(number)),
+            marker_units: Some("userSpaceOnUse"),
+            marker_width: Some(Units(12)),
+            marker_height: Some(Units(10)),
+            marker_x: Some(Units(18)),
+            marker_y: Some(Units(5)),
+            direction: Some("auto"),
+            ..Attributes::of(&Look::PLAIN)
+        };
+        let path = untitled(self.alloc, Shape::Path(data), &Look::PLAIN.fill(fill))?;
         let marker = element(self.alloc, "marker", &attributes, &path)?;
         self.add_line(&marker)
     }
@@ -230,14 +220,14 @@ impl Drawing {
         ensures picture { IfOk result (λ text. IsPicture text.items) }
         ensures printable { IfOk result (λ text. list_all is_text_byte text.items ≡ true) }
     {
-        let attributes = [
-            Attribute::Namespace,
-            Attribute::Width(width),
-            Attribute::Height(height),
-            Attribute::ViewBox(width, height),
-            Attribute::Monospace,
-            Attribute::FontSize(Units(12)),
-        ];
+        let look = Look::PLAIN.monospace().font_size(Units(12));
+        let attributes = Attributes {
+            namespace: Some("http://www.w3.org/2000/svg"),
+            width: Some(width),
+            height: Some(height),
+            view_box: Some(ViewBox { width, height }),
+            ..Attributes::of(&look)
+        };
         document(self.alloc, "svg", &attributes, self.markup())
     }
 }

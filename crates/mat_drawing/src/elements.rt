@@ -1,50 +1,18 @@
 //! Elements with their attributes.
 
-ghost use Rattle.std.specs.Prelude.{◌≡◌, ◌∷◌, true, IfOk, OnOk};
-ghost use Rattle.mat_drawing.specs.{Markup.{AddsAttributes, IsDocument, IsElement, IsMarkup}, Names.{is_name}};
+ghost use Rattle.std.specs.Prelude.{◌≡◌, ◌∷◌, true, IfOk};
+ghost use Rattle.mat_drawing.specs.{Attributes.{attribute_names}, Markup.{AddsAttributes, IsDocument, IsElement, IsMarkup}, Names.{is_name}};
 
-use crate::attribute::Attribute;
-use crate::escaping::put_escaped;
+use crate::attributes::Attributes;
 use std::alloc::{AllocError, Global};
 
-// Appends an attribute behind a space.
-fn put_attribute(
-    alloc: Global,
-    tag: &mut Vec<u8>,
-    attribute: &Attribute<'_>,
-) -> Result<(), AllocError>
-    ensures { OnOk result (AddsAttributes tag.old.items tag.new.items) }
-{
-    let value = attribute.to_string(alloc)?;
-    tag.push(b' ')?;
-    tag.extend_from_slice(attribute.name().as_bytes())?;
-    tag.extend_from_slice(b"=\"")?;
-    put_escaped(tag, value.as_bytes())?;
-    tag.push(b'"')?;
-    Ok(())
-}
-
-// Appends attributes, each behind a space.
-fn put_attributes(
-    alloc: Global,
-    tag: &mut Vec<u8>,
-    attributes: &[Attribute<'_>],
-) -> Result<(), AllocError>
-    ensures { OnOk result (AddsAttributes tag.old.items tag.new.items) }
-{
-    for attribute in attributes {
-        put_attribute(alloc, tag, attribute)?;
-    }
-    Ok(())
-}
-
 // A tag without its end.
-fn opened(alloc: Global, name: &str, attributes: &[Attribute<'_>]) -> Result<Vec<u8>, AllocError>
-    ensures { IfOk result (λ tag. AddsAttributes (60 ∷ name.now) tag.items) }
+fn opened(alloc: Global, name: &str, attributes: &Attributes<'_>) -> Result<Vec<u8>, AllocError>
+    ensures { IfOk result (λ tag. AddsAttributes attribute_names (60 ∷ name.now) tag.items) }
 {
     let mut tag = vec![in alloc; b'<']?;
     tag.extend_from_slice(name.as_bytes())?;
-    put_attributes(alloc, &mut tag, attributes)?;
+    attributes.put(alloc, &mut tag)?;
     Ok(tag)
 }
 
@@ -52,7 +20,7 @@ fn opened(alloc: Global, name: &str, attributes: &[Attribute<'_>]) -> Result<Vec
 pub(crate) fn empty_element(
     alloc: Global,
     name: &str,
-    attributes: &[Attribute<'_>],
+    attributes: &Attributes<'_>,
 ) -> Result<Vec<u8>, AllocError>
     requires { is_name name.now ≡ true }
     ensures { IfOk result (λ text. IsMarkup text.items) }
@@ -66,7 +34,7 @@ pub(crate) fn empty_element(
 pub(crate) fn element(
     alloc: Global,
     name: &str,
-    attributes: &[Attribute<'_>],
+    attributes: &Attributes<'_>,
     inside: &[u8],
 ) -> Result<Vec<u8>, AllocError>
     requires name { is_name name.now ≡ true }
@@ -88,7 +56,7 @@ pub(crate) fn element(
 pub(crate) fn document(
     alloc: Global,
     name: &str,
-    attributes: &[Attribute<'_>],
+    attributes: &Attributes<'_>,
     lines: &[u8],
 ) -> Result<Vec<u8>, AllocError>
     requires name { is_name name.now ≡ true }

@@ -4,10 +4,10 @@ ghost use Rattle.std.specs.Prelude.{◌≡◌, true};
 ghost use Rattle.mat_drawing.specs.Names.{is_name};
 
 use crate::area::Area;
-use crate::attribute::Attribute;
+use crate::attributes::Attributes;
+use crate::look::Look;
 use crate::point::Point;
 use crate::units::Units;
-use std::alloc::{AllocError, Global};
 
 /// A shape.
 #[derive(Clone, Copy)]
@@ -32,27 +32,27 @@ impl<'a> Shape<'a> {
         }
     }
 
-    /// The attributes that tell where it is, and these others behind them. The only error is want of memory.
-    pub(crate) fn attributes(
-        &self,
-        alloc: Global,
-        others: &[Attribute<'a>],
-    ) -> Result<Vec<Attribute<'a>>, AllocError> {
-        let mut attributes = match *self {
-            Shape::Circle(middle, radius) => vec![in alloc;
-                Attribute::CentreX(middle.x),
-                Attribute::CentreY(middle.y),
-                Attribute::Radius(radius),
-            ]?,
-            Shape::Path(data) => vec![in alloc; Attribute::Data(data)]?,
-            Shape::Rectangle(area) => vec![in alloc;
-                Attribute::X(area.x),
-                Attribute::Y(area.y),
-                Attribute::Width(area.width),
-                Attribute::Height(area.height),
-            ]?,
-        };
-        attributes.extend_from_slice(others)?;
-        Ok(attributes)
+    /// The attributes that tell where it is, and those of a look.
+    pub(crate) fn attributes(&self, look: &Look) -> Attributes<'a> {
+        let attributes = Attributes::of(look);
+        match *self {
+            Shape::Circle(middle, radius) => Attributes {
+                centre_x: Some(middle.x),
+                centre_y: Some(middle.y),
+                radius: Some(radius),
+                ..attributes
+            },
+            Shape::Path(data) => Attributes {
+                data: Some(data),
+                ..attributes
+            },
+            Shape::Rectangle(area) => Attributes {
+                x: Some(area.x),
+                y: Some(area.y),
+                width: Some(area.width),
+                height: Some(area.height),
+                ..attributes
+            },
+        }
     }
 }

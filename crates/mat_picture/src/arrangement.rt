@@ -1,6 +1,6 @@
 //! How the edges and vertices of a graph are arranged and styled.
 
-use mat_drawing::{Colour, Dash};
+use mat_drawing::{Colour, Dash, Look, Units};
 use mat_sets::ElemSet;
 use mat_text::Text;
 
@@ -39,6 +39,16 @@ impl Style {
             width,
             words,
             head: number % 7,
+        }
+    }
+
+    /// How they look where they are so wide.
+    pub(crate) fn look(&self, width: Units) -> Look {
+        let look = Look::PLAIN.stroke(self.colour).stroke_width(width);
+        if self.dash.is_none() {
+            look
+        } else {
+            look.dashes(self.dash)
         }
     }
 }

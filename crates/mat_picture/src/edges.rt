@@ -3,7 +3,7 @@
 use crate::arrangement::Style;
 use crate::layout::Layout;
 use crate::strands::Strand;
-use mat_drawing::{Attribute, Drawing, Shape, Units};
+use mat_drawing::{Drawing, Look, Shape, Units};
 use std::alloc::{AllocError, Global};
 
 // The path of a loop: two arcs that meet on its far side.
@@ -38,32 +38,22 @@ fn draw_edge(
     let alloc = drawing.alloc();
     let path = path_of(alloc, layout, strand)?;
     let title = layout.graph.title(alloc, e, strand.tail, strand.head)?;
-    drawing.titled(Shape::Path(&path), &[], title)
+    drawing.titled(Shape::Path(&path), &Look::PLAIN, title)
 }
 
-// The attributes of edges of a style: directed ones end with arrow heads.
-fn look_of(
-    alloc: Global,
-    layout: &Layout<'_>,
-    style: &Style,
-) -> Result<Vec<Attribute<'static>>, AllocError> {
+// How edges of a style look: directed ones end with arrow heads.
+fn look_of(layout: &Layout<'_>, style: &Style) -> Look {
     let width = if layout.is_crowded() {
         style.width.saturating_add(1) / 2
     } else {
         style.width
     };
-    let mut look = vec![in alloc;
-        Attribute::NoFill,
-        Attribute::Stroke(style.colour),
-        Attribute::StrokeWidth(Units(width)),
-    ]?;
-    if !style.dash.is_none() {
-        look.push(Attribute::Dashes(style.dash))?;
-    }
+    let look = style.look(Units(width)).no_fill();
     if layout.graph.is_directed() {
-        look.push(Attribute::Arrow(style.head))?;
+        look.arrow(style.head)
+    } else {
+        look
     }
-    Ok(look)
 }
 
 // Draws the edges of the style of this number.
@@ -73,14 +63,13 @@ fn draw_styled(
     number: usize,
     style: &Style,
 ) -> Result<(), AllocError> {
-    let alloc = drawing.alloc();
-    let mut edges = Drawing::new(alloc);
+    let mut edges = Drawing::new(drawing.alloc());
     for (e, strand) in layout.strands.iter().enumerate() {
         if layout.arrangement.style_of.get(e) == Some(&number) {
             draw_edge(&mut edges, layout, e, strand)?;
         }
     }
-    drawing.group(&look_of(alloc, layout, style)?, &edges)
+    drawing.group(&look_of(layout, style), &edges)
 }
 
 /// Draws all edges, style by style. The only error is want of memory.

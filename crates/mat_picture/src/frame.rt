@@ -5,7 +5,7 @@ ghost use Rattle.mat_drawing.specs.Markup.{IsPicture};
 ghost use Rattle.mat_text.specs.Texts.{IsPrintable};
 
 use mat_charts::{LINE, MARGIN};
-use mat_drawing::{Area, Attribute, Colour, Drawing, Point, Units};
+use mat_drawing::{Area, Colour, Drawing, Look, Point, Units};
 use mat_text::{Paragraph, Text};
 use std::alloc::{AllocError, Global};
 use std::str;
@@ -90,14 +90,13 @@ impl Head {
 
     // Draws the head.
     fn draw(&self, drawing: &mut Drawing) -> Result<(), AllocError> {
-        let look = [Attribute::FontSize(Units(14))];
+        let look = Look::PLAIN.font_size(Units(14));
         let from = Point {
             x: MARGIN,
             y: Units(30),
         };
         let end = drawing.lines(from, text_of(&self.question), 20, &look)?;
-        let look = [Attribute::FontSize(Units(14)), Attribute::Bold];
-        let _end = drawing.lines(end, text_of(&self.results), 20, &look)?;
+        let _end = drawing.lines(end, text_of(&self.results), 20, &look.bold())?;
         Ok(())
     }
 }

@@ -1,7 +1,7 @@
 //! Labels of the edges of a graph, where these are few.
 
 use crate::layout::Layout;
-use mat_drawing::{Anchor, Area, Attribute, Colour, Drawing, Point, Units};
+use mat_drawing::{Anchor, Area, Colour, Drawing, Look, Point, Units};
 use std::alloc::{AllocError, Global};
 
 // The most edges that have labels.
@@ -39,20 +39,17 @@ fn draw_grounds(drawing: &mut Drawing, labels: &[Label]) -> Result<(), AllocErro
         };
         grounds.rectangle(area, Colour::WHITE)?;
     }
-    drawing.group(&[Attribute::Translucent], &grounds)
+    drawing.group(&Look::PLAIN.translucent(), &grounds)
 }
 
 // Draws the words of the labels.
 fn draw_words(drawing: &mut Drawing, labels: &[Label]) -> Result<(), AllocError> {
     let mut words = Drawing::new(drawing.alloc());
     for label in labels {
-        words.text(label.at.below(4), &label.words, &[])?;
+        words.text(label.at.below(4), &label.words, &Look::PLAIN)?;
     }
-    let look = [
-        Attribute::FontSize(Units(11)),
-        Attribute::Anchor(Anchor::Middle),
-    ];
-    drawing.group(&look, &words)
+    let look = Look::PLAIN.font_size(Units(11));
+    drawing.group(&look.anchor(Anchor::Middle), &words)
 }
 
 /// Draws the labels of the edges, where these are at most 40. The only error is want of memory.

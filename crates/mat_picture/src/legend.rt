@@ -2,7 +2,7 @@
 
 use crate::arrangement::{Arrangement, Style};
 use mat_charts::MARGIN;
-use mat_drawing::{Attribute, Drawing, Point, Units};
+use mat_drawing::{Drawing, Look, Point, Units};
 use std::alloc::{AllocError, Global};
 
 // The most lines of a column.
@@ -72,17 +72,11 @@ impl<'a> Legend<'a> {
 // Draws a piece of an edge and the words for its style.
 fn draw_style(drawing: &mut Drawing, at: Point, style: &Style) -> Result<(), AllocError> {
     let end = at.x + 50;
-    let mut look = vec![in drawing.alloc();
-        Attribute::Stroke(style.colour),
-        Attribute::StrokeWidth(Units(style.width)),
-    ]?;
-    if !style.dash.is_none() {
-        look.push(Attribute::Dashes(style.dash))?;
-    }
+    let look = style.look(Units(style.width));
     drawing.path(format_args!("M{at} H{end}"), &look)?;
     let words = Point {
         x: at.x + 60,
         y: at.y + 4,
     };
-    drawing.text(words, &style.words, &[])
+    drawing.text(words, &style.words, &Look::PLAIN)
 }

@@ -3,7 +3,7 @@
 use crate::arrangement::Group;
 use crate::circle::sine;
 use crate::layout::Layout;
-use mat_drawing::{Anchor, Attribute, Colour, Drawing, Shape, Units, polyline};
+use mat_drawing::{Anchor, Colour, Drawing, Look, Shape, Units, polyline};
 use std::alloc::AllocError;
 
 // Shades a group: its vertices, in their order, and what is between them.
@@ -16,16 +16,8 @@ fn draw_group(drawing: &mut Drawing, layout: &Layout<'_>, group: &Group) -> Resu
     }
     let around = polyline(drawing.alloc(), &points)?;
     let pale = Colour::pale(group.colour);
-    drawing.path(
-        format_args!("{around} Z"),
-        &[
-            Attribute::Fill(pale),
-            Attribute::Stroke(pale),
-            Attribute::StrokeWidth(Units(30)),
-            Attribute::RoundJoins,
-            Attribute::RoundEnds,
-        ],
-    )
+    let look = Look::PLAIN.fill(pale).stroke(pale).stroke_width(Units(30));
+    drawing.path(format_args!("{around} Z"), &look.round())
 }
 
 /// Shades the groups. The only error is want of memory.
@@ -38,10 +30,11 @@ pub(crate) fn draw_groups(drawing: &mut Drawing, layout: &Layout<'_>) -> Result<
 
 // Draws a vertex.
 fn draw_vertex(drawing: &mut Drawing, layout: &Layout<'_>, v: u32) -> Result<(), AllocError> {
-    let mut look = Vec::new(drawing.alloc());
-    if layout.arrangement.marked == Some(v) {
-        look.push(Attribute::Fill(Colour::BLACK))?;
-    }
+    let look = if layout.arrangement.marked == Some(v) {
+        Look::PLAIN.fill(Colour::BLACK)
+    } else {
+        Look::PLAIN
+    };
     let circle = Shape::Circle(layout.point(v), Units(6));
     let name = layout.graph.ends.called.vertex(v as usize);
     drawing.titled(circle, &look, name)
@@ -53,12 +46,8 @@ pub(crate) fn draw_vertices(drawing: &mut Drawing, layout: &Layout<'_>) -> Resul
     for v in &layout.arrangement.order {
         draw_vertex(&mut circles, layout, *v)?;
     }
-    let look = [
-        Attribute::Fill(Colour::WHITE),
-        Attribute::Stroke(Colour::BLACK),
-        Attribute::StrokeWidth(Units(2)),
-    ];
-    drawing.group(&look, &circles)
+    let look = Look::PLAIN.fill(Colour::WHITE).stroke(Colour::BLACK);
+    drawing.group(&look.stroke_width(Units(2)), &circles)
 }
 
 // Draws the name of the vertex at place i, upright.
@@ -81,7 +70,7 @@ fn draw_name(
     } else {
         (5, Anchor::End)
     };
-    let look = [Attribute::FontSize(Units(14)), Attribute::Anchor(anchor)];
+    let look = Look::PLAIN.font_size(Units(14)).anchor(anchor);
     drawing.text(at.below(lower), name, &look)
 }
 
@@ -101,12 +90,8 @@ fn draw_turned_name(
     } else {
         (Anchor::Start, turned - 90)
     };
-    let look = [
-        Attribute::Lower(Units(4)),
-        Attribute::Anchor(anchor),
-        Attribute::Turned(turn, at),
-    ];
-    drawing.text(at, name, &look)
+    let look = Look::PLAIN.lower(Units(4)).anchor(anchor);
+    drawing.text(at, name, &look.turned(turn, at))
 }
 
 /// Draws the names of the vertices. The only error is want of memory.
