@@ -1,10 +1,13 @@
 #!/usr/bin/env python3
-"""Measures answers in words and pictures at 500 elements: `reports.py [N] [PROGRAM]`, at the top of the repository.
+"""Measures answers in words and pictures at 500 elements: `reports.py [N] [PROGRAM]`, at the top of
+the repository.
 
-For each case of `table.py` and each command with an answer that is checked, with names of 32 bytes for the elements and the vertices, the table
-has the seconds and the peak memory in MB of `check`, of `--tell` and of `--picture`, and the bytes of both texts. Each text has to stay below
-the bound of docs/FORMATS.md; each line of words has at most 96 bytes, but for one of a single word; each picture has to be read by an XML parser
-(expat). What is not so is printed. The last line is `N passed, M failed`, which counts answers; the status is 1 if one failed. The program is
+For each case of `table.py` and each command with an answer that is checked, with names of 32 bytes
+for the elements and the vertices, the table has the seconds and the peak memory in MB of `check`,
+of `--tell` and of `--picture`, and the bytes of both texts. Each text has to stay below the bound
+of docs/FORMATS.md; each line of words has at most 96 bytes, but for one of a single word; each
+picture has to be read by an XML parser (expat). What is not so is printed. The last line is
+`N passed, M failed`, which counts answers; the status is 1 if one failed. The program is
 crates/mat_main/out/mat_main if none is named. It needs GNU `time` (/usr/bin/time).
 """
 import os
@@ -13,7 +16,8 @@ import sys
 import tempfile
 from xml.parsers import expat
 
-sys.path.insert(0, os.path.join(os.path.dirname(os.path.dirname(os.path.abspath(__file__))), 'bench'))
+sys.path.insert(0, os.path.join(os.path.dirname(os.path.dirname(os.path.abspath(__file__))),
+                                'bench'))
 from table import CASES, described, measured, saved  # noqa: E402
 
 
@@ -45,8 +49,10 @@ def faults(told, drawn, n):
     """What is wrong with a text in words and with a picture."""
     most_told, most_drawn = bounds(n)
     wide = [line for line in told.decode().splitlines() if len(line) > 96 and ' ' in line.strip()]
-    return ([f'{len(told)} bytes in words'] * (len(told) > most_told) + [f'{len(drawn)} bytes of a picture'] * (len(drawn) > most_drawn)
-            + [f'a line of {len(line)} bytes: {line}' for line in wide[:1]] + ['no XML'] * (not is_xml(drawn)))
+    return ([f'{len(told)} bytes in words'] * (len(told) > most_told)
+            + [f'{len(drawn)} bytes of a picture'] * (len(drawn) > most_drawn)
+            + [f'a line of {len(line)} bytes: {line}' for line in wide[:1]]
+            + ['no XML'] * (not is_xml(drawn)))
 
 
 def is_right(program, name, command, n, folder):
@@ -54,13 +60,15 @@ def is_right(program, name, command, n, folder):
     try:
         path = with_long_names(program, described(name, n, folder), folder)
         answer = saved(folder, 'answer', measured(program, command + [path])[0])
-        runs = [measured(program, words + [path, answer]) for words in (['check'], ['--tell'], ['--picture'])]
+        runs = [measured(program, words + [path, answer])
+                for words in (['check'], ['--tell'], ['--picture'])]
     except SystemExit as fault:
         print(f'{name} {" ".join(command)}: {fault}')
         return False
     cells = [f'{seconds:.2f} ({memory:.0f})' for _, seconds, memory in runs]
     told, drawn = runs[1][0], runs[2][0]
-    print('|', ' | '.join([name, ' '.join(command), *cells, f'{len(told):,}', f'{len(drawn):,}']), '|', flush=True)
+    print('|', ' | '.join([name, ' '.join(command), *cells, f'{len(told):,}', f'{len(drawn):,}']),
+          '|', flush=True)
     found = faults(told, drawn, n)
     print(*(f'{name} {" ".join(command)}: {fault}\n' for fault in found), sep='', end='')
     return not found
@@ -73,7 +81,8 @@ def main():
     for needed in (program, '/usr/bin/time'):
         if not os.access(needed, os.X_OK):
             sys.exit(f'reports.py: {needed}: there is no such program')
-    print('| case | command | `check`: seconds (MB) | `--tell` | `--picture` | bytes in words | bytes of the picture |')
+    print('| case | command | `check`: seconds (MB) | `--tell` | `--picture` | bytes in words '
+          '| bytes of the picture |')
     print('|---|---|---|---|---|---|---|')
     with tempfile.TemporaryDirectory() as folder:
         told = [case for case in CASES if case[1][0] != 'cuts']
