@@ -24,8 +24,8 @@ PEOPLE = (TOP / "examples" / "people.txt").read_text()
 
 
 def long_problem(unions=64):
-    """A problem that takes ten seconds or more: a union of 64 unions of 64 uniform matroids,
-    against a partition. With fewer unions it takes less."""
+    """A problem that takes seconds: a union of 64 unions of 64 uniform matroids, against a
+    partition. With fewer unions it takes less."""
     n = 500
     unions = [f"union {unions}", *(line for _ in range(unions)
                                    for line in ("union 64", *["uniform 1"] * 64))]
@@ -109,7 +109,7 @@ class Page(unittest.TestCase):
         pages.choose(self.browser, "#example", value)
 
     def begin_long_run(self):
-        """Begins a run that takes ten seconds or more, and waits until it is under way."""
+        """Begins a run that takes seconds, and waits until it is under way."""
         self.write("#description", long_problem())
         self.of("#solve", "it.click()")
         self.wait_for("#time", "it.textContent")

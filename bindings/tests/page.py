@@ -494,7 +494,8 @@ class Use(Page):
         order = []
         for _ in range(13):
             self.browser.press("Tab")
-            order.append(self.of(":focus", "it.id || it.parentElement.id"))
+            order.append(self.browser.run(
+                "((it) => it.id || it.parentElement.id)(document.activeElement)"))
         self.assertEqual(order, ["command", "description", "solve", "live", "open-description",
                                  "save-description", "link", "picture", "save-picture",
                                  "answer", "check", "open-answer", "save-answer"])
