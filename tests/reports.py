@@ -6,9 +6,10 @@ For each case of `table.py` and each command with an answer that is checked, wit
 for the elements and the vertices, the table has the seconds and the peak memory in MB of `check`,
 of `--tell` and of `--picture`, and the bytes of both texts. Each text has to stay below the bound
 of docs/FORMATS.md; each line of words has at most 96 bytes, but for one of a single word; each
-picture has to be read by an XML parser (expat). What is not so is printed. The last line is
-`N passed, M failed`, which counts answers; the status is 1 if one failed. The program is
-crates/mat_main/out/mat_main if none is named. It needs GNU `time` (/usr/bin/time).
+picture has to be read by an XML parser (expat), and to be one `svg` of shapes and texts, without
+scripts, styles and links. What is not so is printed. The last line is `N passed, M failed`, which
+counts answers; the status is 1 if one failed. The program is crates/mat_main/out/mat_main if none
+is named. It needs GNU `time` (/usr/bin/time).
 """
 import os
 import re
@@ -35,14 +36,33 @@ def bounds(n):
     return 20 * n * n + 1550 * n + 20_000, 100 * n * n + 4500 * n + 60_000
 
 
-def is_xml(text):
-    """Whether a parser reads it."""
+#: The elements of a picture: shapes, texts and titles, and the head of an arrow.
+SHAPES = {'svg', 'g', 'defs', 'marker', 'path', 'rect', 'circle', 'text', 'title'}
+
+
+def is_told(name, value):
+    """Whether an attribute says how a shape looks, and links, restyles and runs nothing."""
+    is_bare = not name.endswith('href') and not name.startswith('on')
+    return is_bare and name not in ('style', 'class') and 'url(' not in value.replace('url(#', '')
+
+
+def is_picture(text):
+    """Whether a parser reads it, and it is one `svg` of shapes and texts alone."""
+    found, attributes = [], []
+
+    def begin(name, given):
+        found.append(name)
+        attributes.extend(given.items())
+
+    parser = expat.ParserCreate()
+    parser.StartElementHandler = begin
     try:
-        expat.ParserCreate().Parse(text, True)
-        return True
+        parser.Parse(text, True)
     except expat.ExpatError as fault:
         print(fault)
         return False
+    has_shapes = found.count('svg') == 1 and SHAPES.issuperset(found)
+    return has_shapes and all(is_told(*it) for it in attributes)
 
 
 def faults(told, drawn, n):
@@ -52,7 +72,7 @@ def faults(told, drawn, n):
     return ([f'{len(told)} bytes in words'] * (len(told) > most_told)
             + [f'{len(drawn)} bytes of a picture'] * (len(drawn) > most_drawn)
             + [f'a line of {len(line)} bytes: {line}' for line in wide[:1]]
-            + ['no XML'] * (not is_xml(drawn)))
+            + ['no XML of shapes alone'] * (not is_picture(drawn)))
 
 
 def is_right(program, name, command, n, folder):
