@@ -438,6 +438,16 @@ class Use(Page):
         self.solve()
         self.assertRegex(pages.state(self.browser), "^Done in")
 
+    def test_of_a_long_line_the_front_is_shown(self):
+        with tempfile.NamedTemporaryFile("w", suffix=".txt") as file:
+            file.write("x" * 1_000_001)
+            file.flush()
+            self.browser.choose_file(file.name, "#open-description")
+            self.wait_for("#description-part", "it.textContent")
+        told = self.text("#description-part")
+        self.assertTrue(told.startswith("The first 1,000,000 of 1,000,001 characters are shown"))
+        self.assertEqual(self.text("#description"), "x" * 1_000_000)
+
     def test_a_long_text_is_pasted(self):
         text = "matroids 1\n" * 20_000
         self.browser.run(f"""(() => {{

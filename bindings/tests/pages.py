@@ -31,6 +31,11 @@ class _Handler(http.server.SimpleHTTPRequestHandler):
             return super().send_head()
         return self.send_error(404)
 
+    def copyfile(self, source, outputfile):
+        """Hands on a file. A browser that leaves the page takes no more of it."""
+        with contextlib.suppress(BrokenPipeError, ConnectionResetError):
+            super().copyfile(source, outputfile)
+
     def log_message(self, *_):
         """Says nothing."""
 
