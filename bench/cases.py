@@ -1,10 +1,12 @@
 #!/usr/bin/env python3
-"""Prints a large description: `cases.py list`, `cases.py junk`, or `cases.py NAME N` for a pair of N elements, where NAME is one of
-`partitions`, `graphic`, `gf2`, `laminar`, `transversal`, `gammoid`, `dual` and `nested` (against a partition), `graphs` (a graph against
-another), `free`, `routes` and `matching` (against `uniform N`), and `joined` (the union of two graphs against a partition); or for the other
-commands on N elements, where NAME is one of `union` (two graphs), `unions` (eight graphs), `uniforms` (64 matroids of at most 5 elements), `one` (a
-graph alone), `graph`, `rooted`, `payable` (no cost is below 0), `coloured` and `table`. `cases.py certificate N` prints a right certificate of `cases.py free N`,
-with weights of 62 bytes in each split."""
+"""Prints a large description: `cases.py list`, `cases.py junk`, or `cases.py NAME N` for a pair of
+N elements, where NAME is one of `partitions`, `graphic`, `gf2`, `laminar`, `transversal`,
+`gammoid`, `dual` and `nested` (against a partition), `graphs` (a graph against another), `free`,
+`routes` and `matching` (against `uniform N`), and `joined` (the union of two graphs against a
+partition); or for the other commands on N elements, where NAME is one of `union` (two graphs),
+`unions` (eight graphs), `uniforms` (64 matroids of at most 5 elements), `one` (a graph alone),
+`graph`, `rooted`, `payable` (no cost is below 0), `coloured` and `table`. `cases.py certificate N`
+prints a right certificate of `cases.py free N`, with weights of 62 bytes in each split."""
 import random
 import sys
 
@@ -28,7 +30,8 @@ def junk():
 
 def weights_of_all_sizes(numbers, n):
     """N weights."""
-    return [numbers.randint(-1, 1) * numbers.randint(0, 10 ** numbers.randint(1, 12)) for _ in range(n)]
+    return [numbers.randint(-1, 1) * numbers.randint(0, 10 ** numbers.randint(1, 12))
+            for _ in range(n)]
 
 
 def partition(numbers, n):
@@ -73,7 +76,8 @@ def pair(first, second, n):
 
 
 def certificate(n):
-    """A ladder of all sets of N elements: under both parts of each split the heaviest elements stand first."""
+    """A ladder of all sets of N elements: under both parts of each split the heaviest elements
+    stand first."""
     weights = weights_of_all_sizes(random.Random(n), n)
     order = sorted(range(n), key=lambda e: -weights[e])
     shift = 10 ** 29
@@ -97,7 +101,8 @@ def transversal(numbers, n):
 
 
 def laminar(numbers, n):
-    """N elements in halves, quarters and so on down to sets of 4 or more, each with a cap of 1 to 3 quarters of its members."""
+    """N elements in halves, quarters and so on down to sets of 4 or more, each with a cap of 1 to 3
+    quarters of its members."""
     elements = list(range(n))
     numbers.shuffle(elements)
     sets = []
@@ -139,7 +144,8 @@ def dual(numbers, n):
 
 
 def nested(numbers, n):
-    """The dual of a truncation of a restriction of a contraction of a graph of N edges on N / 2 vertices."""
+    """The dual of a truncation of a restriction of a contraction of a graph of N edges on N / 2
+    vertices."""
     print('dual')
     print('truncate', 2 * n // 5)
     print('restrict', *numbers.sample(range(n), 9 * n // 10))
@@ -179,26 +185,30 @@ def dense(numbers, n):
 
 
 def form(name, n):
-    """A graph, a directed graph with costs, a coloured graph or a table of N edges, arcs or cells."""
+    """A graph, a directed graph with costs, a coloured graph or a table of N edges, arcs or
+    cells."""
     numbers = random.Random(n)
     weights = weights_of_all_sizes(numbers, n)
     vertices = n // 4 + 2 if name in ('coloured', 'table') else n // 8 + 2
     if name == 'payable':
         weights, name = [abs(weight) for weight in weights], 'rooted'
-    head = {'graph': f'graph {vertices} {n}', 'rooted': f'rooted {vertices} {n} 0', 'coloured': f'coloured {vertices} {n} {n // 4}',
+    head = {'graph': f'graph {vertices} {n}', 'rooted': f'rooted {vertices} {n} 0',
+            'coloured': f'coloured {vertices} {n} {n // 4}',
             'table': f'table {vertices} {vertices} {n}'}
     print('matroids 1')
     print(head[name])
     for e in range(n):
         ends = f'{numbers.randrange(vertices)} {numbers.randrange(vertices)}'
-        print({'graph': f'edge {ends}', 'rooted': f'arc {ends} {weights[e]}', 'coloured': f'edge {ends} {numbers.randrange(n // 4)} {weights[e]}',
+        print({'graph': f'edge {ends}', 'rooted': f'arc {ends} {weights[e]}',
+               'coloured': f'edge {ends} {numbers.randrange(n // 4)} {weights[e]}',
                'table': f'cell {ends} {weights[e]}'}[name])
     print('end')
 
 
 LISTS = {'union': (graphic, 2), 'unions': (graphic, 8), 'uniforms': (few, 64), 'one': (dense, 1)}
 FORMS = ('graph', 'rooted', 'payable', 'coloured', 'table')
-AGAINST_A_PARTITION = {'partitions': partition, 'graphic': graphic, 'gf2': gf2, 'laminar': laminar, 'transversal': transversal,
+AGAINST_A_PARTITION = {'partitions': partition, 'graphic': graphic, 'gf2': gf2, 'laminar': laminar,
+                       'transversal': transversal,
                        'gammoid': gammoid, 'dual': dual, 'nested': nested, 'joined': joined}
 AGAINST_NOTHING = {'free': uniform, 'routes': many_routes, 'matching': transversal}
 WHOLE = {'list': many_classes, 'junk': junk}

@@ -1,10 +1,12 @@
 #!/usr/bin/env python3
-"""Compares two programs, such as those of two commits: `compare.py BEFORE AFTER [N [CASE ..]]`, at the top of the repository.
+"""Compares two programs, such as those of two commits: `compare.py BEFORE AFTER [N [CASE ..]]`, at
+the top of the repository.
 
-For each case of `table.py` with N elements (500 where no number is given), the command and `check` on its answer, a line of a table has the
-instructions of both programs in millions, which other work on the machine does not change, how many times those of BEFORE the instructions of AFTER
-are, and the seconds on the clock, the best of seven runs of each in turn. The instructions are counted by valgrind (`callgrind`). Both programs
-read the same texts; each judges its own answer.
+For each case of `table.py` with N elements (500 where no number is given), the command and `check`
+on its answer, a line of a table has the instructions of both programs in millions, which other work
+on the machine does not change, how many times those of BEFORE the instructions of AFTER are, and
+the seconds on the clock, the best of seven runs of each in turn. The instructions are counted by
+valgrind (`callgrind`). Both programs read the same texts; each judges its own answer.
 """
 import os
 import re
@@ -21,7 +23,8 @@ RUNS = 7
 def instructions(program, words):
     """The millions of instructions of a run."""
     with tempfile.NamedTemporaryFile() as to:
-        run = subprocess.run(['valgrind', '--tool=callgrind', f'--callgrind-out-file={to.name}', program] + words, capture_output=True)
+        run = subprocess.run(['valgrind', '--tool=callgrind', f'--callgrind-out-file={to.name}',
+                              program] + words, capture_output=True)
     counted = re.search(rb'Collected : (\d+)', run.stderr)
     if run.returncode != 0 or not counted:
         raise SystemExit(f'{program} {" ".join(words)} ends with {run.returncode} under valgrind')
@@ -46,12 +49,14 @@ def row(programs, calls):
         for took, program, words in zip(seconds, programs, calls):
             took.append(run(program, words)[1])
     before, after = counts
-    cells = [f'{before:,.0f}', f'{after:,.0f}', f'{after / before:.2f}'] + [f'{min(took):.4f}' for took in seconds]
-    return ' | '.join(cells + [f'{min(seconds[1]) / min(seconds[0]):.2f}'])
+    cells = [f'{before:,.0f}', f'{after:,.0f}', f'{after / before:.2f}']
+    least = [min(took) for took in seconds]
+    return ' | '.join(cells + [f'{it:.4f}' for it in least] + [f'{least[1] / least[0]:.2f}'])
 
 
 def arguments():
-    """The two programs, the number of elements, and the names of the cases, none where all are meant."""
+    """The two programs, the number of elements, and the names of the cases, none where all are
+    meant."""
     programs, rest = [os.path.abspath(program) for program in sys.argv[1:3]], sys.argv[3:]
     if len(programs) < 2 or rest and not rest[0].isdigit():
         raise SystemExit(__doc__)
@@ -63,17 +68,21 @@ def arguments():
 
 def main():
     programs, count, chosen = arguments()
-    print('| case | command | instructions before | after | ratio | seconds before | after | ratio |\n|---|---|---|---|---|---|---|---|')
+    print('| case | command | instructions before | after | ratio '
+          '| seconds before | after | ratio |')
+    print('|---|---|---|---|---|---|---|---|')
     with tempfile.TemporaryDirectory() as folder:
         for name, command in CASES:
             if chosen and name not in chosen:
                 continue
             path = described(name, count, folder)
             solve = command + [path]
-            print(f'| `{name}` | `{" ".join(command)}` | {row(programs, [solve, solve])} |', flush=True)
+            print(f'| `{name}` | `{" ".join(command)}` | {row(programs, [solve, solve])} |',
+                  flush=True)
             if command == ['cuts']:
                 continue
-            answers = [saved(folder, f'answer_{place}', run(program, solve)[0]) for place, program in enumerate(programs)]
+            answers = [saved(folder, f'answer_{place}', run(program, solve)[0]) for place,
+                       program in enumerate(programs)]
             checks = [['check', path, answer] for answer in answers]
             print(f'| | `check` | {row(programs, checks)} |', flush=True)
 

@@ -1,11 +1,15 @@
 #!/usr/bin/env python3
-"""How the time of each command grows with the number of elements: `growth.py [PROGRAM]`, at the top of the repository.
+"""How the time of each command grows with the number of elements: `growth.py [PROGRAM]`, at the top
+of the repository.
 
-For each case of `table.py`, and for `sample`, a row has the milliseconds at 60, 200 and 500 elements (the best of fifteen runs on the clock, less
-those of `--version`); the exponent p of the power n^p that fits them, by least squares on the logarithms at seven sizes, of which those with less than
-0.4 ms are left out; and the seconds that 5,000 elements would take by it, those at 500 times 10^p. Then the same of `check` on the answer, and of the
-bytes of the answer. There is no fit through fewer than four sizes, or where it explains less than nine tenths of the variance. Run it ahead of other
-work (`chrt -r 50 python3 bench/growth.py`), or the figures say little. The program is crates/mat_main/out/mat_main where none is named.
+For each case of `table.py`, and for `sample`, a row has the milliseconds at 60, 200 and 500
+elements (the best of fifteen runs on the clock, less those of `--version`); the exponent p of the
+power n^p that fits them, by least squares on the logarithms at seven sizes, of which those with
+less than 0.4 ms are left out; and the seconds that 5,000 elements would take by it, those at 500
+times 10^p. Then the same of `check` on the answer, and of the bytes of the answer. There is no fit
+through fewer than four sizes, or where it explains less than nine tenths of the variance. Run it
+ahead of other work (`chrt -r 50 python3 bench/growth.py`), or the figures say little. The program
+is crates/mat_main/out/mat_main where none is named.
 """
 import math
 import sys
@@ -27,8 +31,10 @@ def timed(program, words, runs=RUNS):
 
 
 def exponent(values, least):
-    """The slope of a line through the logarithms of sizes and values, or none where too few values are large enough or they lie far from a line."""
-    logs = [(math.log(size), math.log(value)) for size, value in zip(SIZES, values) if value >= least]
+    """The slope of a line through the logarithms of sizes and values, or none where too few values
+    are large enough or they lie far from a line."""
+    logs = [(math.log(size), math.log(value)) for size, value in zip(SIZES, values)
+            if value >= least]
     if len(logs) < FEWEST:
         return None
     x0, y0 = (sum(column) / len(logs) for column in zip(*logs))
@@ -47,7 +53,8 @@ def cells(values, sizes, least, unit, unit_then):
     """The values at some sizes in one unit, the exponent, and the value at 5,000 in another."""
     p = exponent(values, least)
     shown = [rounded(values[SIZES.index(size)] / unit) for size in sizes]
-    return shown + ([f'{p:.1f}', rounded(values[-1] * 10 ** p / unit_then)] if p is not None else ['', ''])
+    return shown + ([f'{p:.1f}', rounded(values[-1] * 10 ** p / unit_then)] if p is not None
+                    else ['', ''])
 
 
 def row(program, start, name, command):
@@ -63,8 +70,10 @@ def row(program, start, name, command):
             seconds.append(took - start)
             bytes_of.append(len(out))
             if command[0] != 'cuts':
-                judged.append(timed(program, ['check', path, saved(folder, 'answer', out)])[1] - start)
-    return (cells(seconds, (60, 200, 500), LEAST, 0.001, 1) + (cells(judged, (500,), LEAST, 0.001, 1) if judged else [''] * 3)
+                judged.append(timed(program, ['check', path, saved(folder, 'answer', out)])[1]
+                              - start)
+    return (cells(seconds, (60, 200, 500), LEAST, 0.001, 1)
+            + (cells(judged, (500,), LEAST, 0.001, 1) if judged else [''] * 3)
             + (cells(bytes_of, (500,), 1, 1e3, 1e6) if bytes_of else [''] * 3))
 
 
@@ -72,10 +81,12 @@ def main():
     program = sys.argv[1] if len(sys.argv) > 1 else 'crates/mat_main/out/mat_main'
     start = timed(program, ['--version'], 100)[1]
     print(f'A call of --version takes {start * 1000:.1f} ms.\n')
-    print('| case | command | ms at 60 | 200 | 500 | p | s at 5,000 | `check`, ms at 500 | p | s at 5,000 | kB at 500 | p | MB at 5,000 |')
+    print('| case | command | ms at 60 | 200 | 500 | p | s at 5,000 | `check`, ms at 500 | p '
+          '| s at 5,000 | kB at 500 | p | MB at 5,000 |')
     print('|---|---|---|---|---|---|---|---|---|---|---|---|---|')
     for name, command in CASES + [('', ['sample', kind]) for kind in SAMPLES]:
-        print(f'| `{name}` |' if name else '| |', f'`{" ".join(command)}` |', ' | '.join(row(program, start, name, command)), '|', flush=True)
+        print(f'| `{name}` |' if name else '| |', f'`{" ".join(command)}` |',
+              ' | '.join(row(program, start, name, command)), '|', flush=True)
 
 
 if __name__ == '__main__':

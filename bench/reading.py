@@ -1,9 +1,11 @@
 #!/usr/bin/env python3
-"""Measures how fast laminar families are read: `reading.py PROGRAM [OTHER]`, at the top of the repository.
+"""Measures how fast laminar families are read: `reading.py PROGRAM [OTHER]`, at the top of the
+repository.
 
-Descriptions of single elements, of binary trees, of chains of sets and of few large sets, each of up to 4 MB, are shown (`show`). A line of a
-table has the size of the text, and of each program the instructions in millions, which other work on the machine does not change, and the least
-seconds of seven runs on the clock. The instructions are counted by valgrind (`callgrind`).
+Descriptions of single elements, of binary trees, of chains of sets and of few large sets, each of
+up to 4 MB, are shown (`show`). A line of a table has the size of the text, and of each program the
+instructions in millions, which other work on the machine does not change, and the least seconds of
+seven runs on the clock. The instructions are counted by valgrind (`callgrind`).
 """
 import os
 import random
@@ -43,14 +45,16 @@ CASES = [
     ('the same, in no order', 8, shuffled(TWO_CHAINS)),
     ('9 families of a chain, 240 sets deep, rising', 9, DEEP[::-1]),
     ('the same, falling', 9, DEEP),
-    ('64 families of all elements and ten sets of 50', 64, [range(ELEMENTS)] + [range(e, e + 50) for e in range(0, ELEMENTS, 50)]),
+    ('64 families of all elements and ten sets of 50', 64, [range(ELEMENTS)]
+     + [range(e, e + 50) for e in range(0, ELEMENTS, 50)]),
 ]
 
 
 def description(families, sets):
     """So many laminar matroids with these sets, whose caps are their sizes."""
     lines = ['matroids 1', f'list {ELEMENTS} {families}', 'weights' + ' 1' * ELEMENTS]
-    lines += ([f'laminar {len(sets)}'] + [f'set {len(one)} ' + ' '.join(map(str, one)) for one in sets]) * families
+    lines += ([f'laminar {len(sets)}'] + [f'set {len(one)} ' + ' '.join(map(str, one))
+                                          for one in sets]) * families
     return '\n'.join(lines + ['end', ''])
 
 

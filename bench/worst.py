@@ -1,8 +1,9 @@
 #!/usr/bin/env python3
 """Runs the worst inputs at each limit: `worst.py [PROGRAM]`, at the top of the repository.
 
-Prints for each a line of a table: the command, how it ended, the seconds on the clock and the peak memory. The aims are five seconds and
-200 MB. The program is crates/mat_main/out/mat_main where none is named.
+Prints for each a line of a table: the command, how it ended, the seconds on the clock and the peak
+memory. The aims are five seconds and 200 MB. The program is crates/mat_main/out/mat_main where none
+is named.
 """
 import os
 import random
@@ -24,15 +25,18 @@ def weights(numbers, n=N):
 
 
 def graphic(numbers):
-    return [f'graphic {N // 2}'] + [line('edge', numbers.randrange(N // 2), numbers.randrange(N // 2)) for _ in range(N)]
+    ends = [(numbers.randrange(N // 2), numbers.randrange(N // 2)) for _ in range(N)]
+    return [f'graphic {N // 2}'] + [line('edge', *both) for both in ends]
 
 
 def transversal(numbers):
-    return [f'transversal {N}'] + [line('set', *sorted(numbers.sample(range(N), 250))) for _ in range(N)]
+    sets = [sorted(numbers.sample(range(N), 250)) for _ in range(N)]
+    return [f'transversal {N}'] + [line('set', *members) for members in sets]
 
 
 def gammoid(numbers):
-    return ([f'gammoid {N} 20000', line('sources', *numbers.sample(range(N), N // 2)), line('targets', *numbers.sample(range(N), N))]
+    return ([f'gammoid {N} 20000', line('sources', *numbers.sample(range(N), N // 2)),
+             line('targets', *numbers.sample(range(N), N))]
             + [line('arc', numbers.randrange(N), numbers.randrange(N)) for _ in range(20000)])
 
 
@@ -53,14 +57,17 @@ WRAPPERS = {'dual': lambda numbers: 'dual', 'truncate': lambda numbers: f'trunca
 
 
 def wrapped(names, inner):
-    """A matroid in fifteen wrappers, of these kinds in turn: with it sixteen stand within one another."""
+    """A matroid in fifteen wrappers, of these kinds in turn: with it sixteen stand within one
+    another."""
     def lines(numbers):
         return [WRAPPERS[names[i % len(names)]](numbers) for i in range(15)] + inner(numbers)
     return lines
 
 
 def union(count, inner):
-    return lambda numbers: [f'union {count}'] + [text for _ in range(count) for text in inner(numbers)]
+    def lines(numbers):
+        return [f'union {count}'] + [text for _ in range(count) for text in inner(numbers)]
+    return lines
 
 
 def uniform(cap):
@@ -69,51 +76,76 @@ def uniform(cap):
 
 def pair(first, second):
     numbers = random.Random(1)
-    return '\n'.join(['matroids 1', f'pair {N}', weights(numbers)] + first(numbers) + second(numbers) + ['end', '']).encode()
+    return '\n'.join(['matroids 1', f'pair {N}', weights(numbers)] + first(numbers)
+                     + second(numbers) + ['end', '']).encode()
 
 
 def listed(kinds):
     numbers = random.Random(1)
     body = [text for kind in kinds for text in kind(numbers)]
-    return '\n'.join(['matroids 1', f'list {N} {len(kinds)}', weights(numbers)] + body + ['end', '']).encode()
+    return '\n'.join(['matroids 1', f'list {N} {len(kinds)}', weights(numbers)] + body
+                     + ['end', '']).encode()
+
+
+def gammoid_of_500(numbers):
+    arcs = [line('arc', numbers.randrange(N), numbers.randrange(N)) for _ in range(500)]
+    return ['gammoid 500 500', line('sources', *range(250)), line('targets', *range(500))] + arcs
+
+
+def pairs():
+    """Pairs of matroids, each with its name."""
+    for name in WRAPPERS:
+        yield (f'a graph in fifteen times `{name}`, against a partition',
+               wrapped([name], graphic), partition)
+    mixed = wrapped(['dual', 'truncate', 'restrict', 'contract'], graphic)
+    yield 'a graph in fifteen mixed wrappers, against a partition', mixed, partition
+    yield ('the same, against a transversal matroid in such wrappers', mixed,
+           wrapped(['contract', 'dual'], transversal))
+    yield 'a gammoid of 20,000 arcs, against another', gammoid, gammoid
+    yield 'a gammoid in fifteen duals, against 128 digits', wrapped(['dual'], gammoid), gf2
+    yield '500 sets of 250 elements, against another such family', transversal, transversal
+    yield ('the union of two graphs, against the union of two others',
+           union(2, graphic), union(2, graphic))
+    yield 'the union of two gammoids, against a partition', union(2, gammoid), partition
+    yield ('the dual of a union of four graphs, against a graph',
+           lambda numbers: ['dual'] + union(4, graphic)(numbers), graphic)
+    yield ('the union of 64 unions of 64 uniform matroids, against a partition',
+           union(64, union(64, uniform(1))), partition)
+    crowded = union(64, lambda numbers: ['partition 1', line('class', 1, *range(300))])
+    yield ('the union of 64 partitions with a class of 300 in common, against a free matroid',
+           crowded, uniform(N))
+    yield 'two free matroids, 501 rungs of weights of 13 digits', uniform(N), uniform(N)
 
 
 def solved():
-    """Descriptions, each with the command that solves it; `check` judges the answer, `--tell` says it and `--picture` draws it."""
-    for name in WRAPPERS:
-        yield f'a graph in fifteen times `{name}`, against a partition', 'intersect', pair(wrapped([name], graphic), partition)
-    mixed = wrapped(['dual', 'truncate', 'restrict', 'contract'], graphic)
-    yield 'a graph in fifteen mixed wrappers, against a partition', 'intersect', pair(mixed, partition)
-    yield 'the same, against a transversal matroid in such wrappers', 'intersect', pair(mixed, wrapped(['contract', 'dual'], transversal))
-    yield 'a gammoid of 20,000 arcs, against another', 'intersect', pair(gammoid, gammoid)
-    yield 'a gammoid in fifteen duals, against 128 digits', 'intersect', pair(wrapped(['dual'], gammoid), gf2)
-    yield '500 sets of 250 elements, against another such family', 'intersect', pair(transversal, transversal)
-    yield 'the union of two graphs, against the union of two others', 'intersect', pair(union(2, graphic), union(2, graphic))
-    yield 'the union of two gammoids, against a partition', 'intersect', pair(union(2, gammoid), partition)
-    yield 'the dual of a union of four graphs, against a graph', 'intersect', pair(lambda numbers: ['dual'] + union(4, graphic)(numbers), graphic)
-    yield 'the union of 64 unions of 64 uniform matroids, against a partition', 'intersect', pair(union(64, union(64, uniform(1))), partition)
-    crowded = union(64, lambda numbers: ['partition 1', line('class', 1, *range(300))])
-    yield 'the union of 64 partitions with a class of 300 in common, against a free matroid', 'intersect', pair(crowded, uniform(N))
-    yield 'two free matroids, 501 rungs of weights of 13 digits', 'intersect', pair(uniform(N), uniform(N))
-    yield '64 gammoids of 500 arcs', 'union', listed([lambda numbers: ['gammoid 500 500', line('sources', *range(250)), line('targets', *range(500))]
-                                                   + [line('arc', numbers.randrange(N), numbers.randrange(N)) for _ in range(500)]] * 64)
+    """Descriptions, each with the command that solves it; `check` judges the answer, `--tell` says
+    it and `--picture` draws it."""
+    for name, first, second in pairs():
+        yield name, 'intersect', pair(first, second)
+    yield '64 gammoids of 500 arcs', 'union', listed([gammoid_of_500] * 64)
     yield 'a gammoid of 20,000 arcs', 'best', listed([gammoid])
     yield 'the same', 'pack', listed([gammoid])
     yield 'the same', 'cover', listed([gammoid])
 
 
 def refused():
-    """Texts at the limits of their length, each with the words that read it, and the description beside a certificate."""
+    """Texts at the limits of their length, each with the words that read it, and the description
+    beside a certificate."""
     free = pair(uniform(N), uniform(N))
-    for name, text in [('one long line', b'x' * DESCRIPTION_LIMIT), ('only newlines', b'\n' * DESCRIPTION_LIMIT),
-                       ('numbers of 31 digits', (b'matroids 1\npair 500\nweights' + b' 1' + b'0' * 30) * (DESCRIPTION_LIMIT // 64)),
+    for name, text in [('one long line', b'x' * DESCRIPTION_LIMIT),
+                       ('only newlines', b'\n' * DESCRIPTION_LIMIT),
+                       ('numbers of 31 digits',
+                        (b'matroids 1\npair 500\nweights' + b' 1' + b'0' * 30)
+                        * (DESCRIPTION_LIMIT // 64)),
                        ('one word more than the limit', b'x' * (DESCRIPTION_LIMIT + 1))]:
         yield f'a description of 4 MB: {name}', 'show f', text, b''
     head = b'certificate 1\nanswer intersect 500 500\nrung 0 0\nset\nfirst'
-    for name, text in [('one long line', b'x' * CERTIFICATE_LIMIT), ('only newlines', b'\n' * CERTIFICATE_LIMIT),
-                       ('numbers of 31 digits in one line', (head + (b' 1' + b'0' * 30) * (CERTIFICATE_LIMIT // 32))[:CERTIFICATE_LIMIT]),
-                       ('a line of many words', (head + b' 1' * (CERTIFICATE_LIMIT // 2))[:CERTIFICATE_LIMIT])]:
-        yield f'a certificate of 64 MB: {name}', 'check f c', free, text
+    for name, text in [('one long line', b'x' * CERTIFICATE_LIMIT),
+                       ('only newlines', b'\n' * CERTIFICATE_LIMIT),
+                       ('numbers of 31 digits in one line',
+                        head + (b' 1' + b'0' * 30) * (CERTIFICATE_LIMIT // 32)),
+                       ('a line of many words', head + b' 1' * (CERTIFICATE_LIMIT // 2))]:
+        yield f'a certificate of 64 MB: {name}', 'check f c', free, text[:CERTIFICATE_LIMIT]
 
 
 def main():
@@ -132,7 +164,8 @@ def main():
             saved(folder, 'f', text)
             saved(folder, 'c', certificate)
             status, _, seconds, memory = once(program, words.split(), folder)
-            print(f'| {name} | `{words.split()[0]}` | {status} | {seconds:.2f} | {memory:.0f} |', flush=True)
+            print(f'| {name} | `{words.split()[0]}` | {status} | {seconds:.2f} | {memory:.0f} |',
+                  flush=True)
 
 
 if __name__ == '__main__':

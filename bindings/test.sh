@@ -1,8 +1,8 @@
 #!/bin/sh
 # Tests what bindings/build.sh built, against the proved program or the PROGRAM that is named. It needs python3, and it says what it could not
-# run if one of these is missing: cc for the libraries for C; for the page chromium (apt-get install -y --no-install-recommends chromium), or the
-# browser of that kind that the variable CHROMIUM names, and firefox or firefox-esr (apt-get install -y --no-install-recommends firefox-esr), or
-# the one that the variable FIREFOX names.
+# run if one of these is missing: cc for the libraries for C; mypy for the types of the Python module; for the page chromium (apt-get install -y
+# --no-install-recommends chromium), or the browser of that kind that the variable CHROMIUM names, and firefox or firefox-esr (apt-get install -y
+# --no-install-recommends firefox-esr), or the one that the variable FIREFOX names.
 #
 #   bindings/test.sh [PROGRAM]
 #
@@ -111,6 +111,11 @@ else
 fi
 if is_built "the Python module" libmatbench.so; then
     try "the Python module" python3 "$bindings/tests/python_module.py"
+fi
+if command -v mypy >/dev/null; then
+    try "the types of the Python module" env MYPYPATH="$bindings" mypy --strict --cache-dir="$work/types" -p matbench
+else
+    cannot "the types of the Python module" "there is no mypy"
 fi
 if is_built "the programs of docs/BINDINGS.md" libmatbench.a && is_built "the programs of docs/BINDINGS.md" libmatbench_line.a; then
     try "the programs of docs/BINDINGS.md" python3 "$bindings/tests/documents.py"

@@ -1,12 +1,16 @@
-"""python3 examples/from_csv.py WISHES.csv LIMITS.csv: a description of wishes with a limit for each shift and each person.
+"""python3 examples/from_csv.py WISHES.csv LIMITS.csv: a description of wishes with a limit for each
+shift and each person.
 
-WISHES.csv has the columns person, shift and gain, and a line for each wish. It may have three more: day (nobody works twice on a day), must (the
-wish has to be granted: yes or no) and last (it was granted last time: yes or no); an empty cell says no. LIMITS.csv has the columns name and
-most, and a line for each shift and each person; where it has a column least too, a shift needs so many. Both are as spreadsheets save them
-(spreadsheet.py). Yes and no may be said in German, French, Italian and Spanish too, and as TRUE and FALSE.
+WISHES.csv has the columns person, shift and gain, and a line for each wish. It may have three more:
+day (nobody works twice on a day), must (the wish has to be granted: yes or no) and last (it was
+granted last time: yes or no); an empty cell says no. LIMITS.csv has the columns name and most, and
+a line for each shift and each person; where it has a column least too, a shift needs so many. Both
+are as spreadsheets save them (spreadsheet.py). Yes and no may be said in German, French, Italian
+and Spanish too, and as TRUE and FALSE.
 
-A wish gets the name PERSON.SHIFT, with '_' for a space. One of a shift with a least number below its most stands there twice, the second time as
-PERSON.SHIFT.more. With least or must a weight is A:B, A what has to be met and B the gain; with last it is A:B, A the gain and B 1 or -1.
+A wish gets the name PERSON.SHIFT, with '_' for a space. One of a shift with a least number below
+its most stands there twice, the second time as PERSON.SHIFT.more. With least or must a weight is
+A:B, A what has to be met and B the gain; with last it is A:B, A the gain and B 1 or -1.
 """
 import collections
 import re
@@ -19,7 +23,8 @@ MOST_ELEMENTS = 500
 LARGEST_GAIN = 10**12
 NAME_LENGTH = 32
 MORE = ".more"
-YES = ("yes", "y", "x", "true", "1", "ja", "wahr", "oui", "vrai", "si", "sì", "sí", "vero", "verdadero")
+YES = ("yes", "y", "x", "true", "1", "ja", "wahr", "oui", "vrai", "si", "sì", "sí", "vero",
+       "verdadero")
 NO = ("", "no", "n", "false", "0", "nein", "falsch", "non", "faux", "falso")
 
 
@@ -29,13 +34,15 @@ def refuse(what):
 
 
 def rows_of(name, needed, further):
-    """The lines of a spreadsheet that are not empty, with their cells by columns, of which some are needed and some may be there."""
+    """The lines of a spreadsheet that are not empty, with their cells by columns, of which some are
+    needed and some may be there."""
     try:
         heads, table = spreadsheet.table_of(name)
     except spreadsheet.Fault as fault:
         return refuse(fault)
     if not set(needed) <= set(heads) <= {*needed, *further} or len(set(heads)) < len(heads):
-        refuse(f"{name}: the first line has the columns {', '.join(needed)}, and may have {', '.join(further)}; here it has {', '.join(heads)}")
+        refuse(f"{name}: the first line has the columns {', '.join(needed)}, "
+               f"and may have {', '.join(further)}; here it has {', '.join(heads)}")
     for cells in table:
         if len(cells) > len(heads):
             refuse(f"{name}: the line {','.join(cells)} has more cells than the first one")
@@ -72,7 +79,8 @@ def name_of(wish):
 
 
 def is_in_range(number):
-    """Whether a number of a gain is one that a description may have. It may have more digits than int() takes."""
+    """Whether a number of a gain is one that a description may have. It may have more digits than
+    int() takes."""
     return len(number) <= len(str(-LARGEST_GAIN)) and abs(int(number)) <= LARGEST_GAIN
 
 
@@ -88,9 +96,11 @@ def refuse_wish(wish, limits, limits_name):
     if not wish["gain"]:
         refuse(f"{name}: the wish has no gain")
     if not re.fullmatch("(0|-?[1-9][0-9]*)(:-?[1-9][0-9]*)?", wish["gain"]):
-        refuse(f"{name}: a gain is a whole number, and not '{wish['gain']}': measure all gains in a smaller unit, such as tenths or cents")
+        refuse(f"{name}: a gain is a whole number, and not '{wish['gain']}': "
+               f"measure all gains in a smaller unit, such as tenths or cents")
     if not all(is_in_range(number) for number in wish["gain"].split(":")):
-        refuse(f"{name}: a gain is from -10^12 to 10^12: measure all gains in a larger unit, such as thousands")
+        refuse(f"{name}: a gain is from -10^12 to 10^12: "
+               f"measure all gains in a larger unit, such as thousands")
     if limits[wish["person"]][1]:
         refuse(f"{wish['person']}: a least number is for shifts alone")
     if wish.get("day") == "":
@@ -110,11 +120,13 @@ def refuse_faults(wishes, limits, limits_name):
         names.add(name_of(wish))
         day = wish.get("day")
         if days.setdefault(wish["shift"], day) != day:
-            refuse(f"{wish['shift']}: this shift stands on two days, {days[wish['shift']]} and {day}: give each its own name, as '{day} {wish['shift']}'")
+            refuse(f"{wish['shift']}: this shift stands on two days, {days[wish['shift']]} "
+                   f"and {day}: give each its own name, as '{day} {wish['shift']}'")
 
 
 def elements_of(wishes, limits):
-    """The elements: each wish, and once more where its shift has a least number and room beyond. The first one counts for the least number."""
+    """The elements: each wish, and once more where its shift has a least number and room beyond.
+    The first one counts for the least number."""
     found = []
     for wish in wishes:
         most, least = limits[wish["shift"]]
@@ -123,9 +135,11 @@ def elements_of(wishes, limits):
             found.append({**wish, "name": name_of(wish) + MORE, "counts": 0})
     for name, count in collections.Counter(it["name"] for it in found).items():
         if count > 1:
-            refuse(f"{name}: two wishes come to this name: call one of the people or shifts otherwise")
+            refuse(f"{name}: two wishes come to this name: "
+                   f"call one of the people or shifts otherwise")
     if len(found) > MOST_ELEMENTS:
-        refuse(f"{len(found)} elements are more than {MOST_ELEMENTS} (a wish of a shift with a least number may be two)")
+        refuse(f"{len(found)} elements are more than {MOST_ELEMENTS} "
+               f"(a wish of a shift with a least number may be two)")
     return found
 
 
@@ -135,7 +149,8 @@ def is_marked(element, column):
 
 
 def weight_of(element, has_demands, has_last):
-    """A weight: the gain, with what has to be met in front, or with what was granted last time behind."""
+    """A weight: the gain, with what has to be met in front, or with what was granted last time
+    behind."""
     gain = element["gain"]
     if has_demands:
         met = element["counts"] + is_marked(element, "must")
@@ -150,13 +165,15 @@ def weights_of(elements, limits):
     has_demands = "must" in elements[0] or any(least for _, least in limits.values())
     has_last = "last" in elements[0]
     if has_demands + has_last + any(":" in it["gain"] for it in elements) > 1:
-        refuse("a weight has two numbers: of least and must, of last, and of gains with a ':' only one can be there")
+        refuse("a weight has two numbers: of least and must, of last, "
+               "and of gains with a ':' only one can be there")
     return [weight_of(it, has_demands, has_last) for it in elements]
 
 
 def groups_by(column, elements):
     """The elements by what they have in a column, in the order of the alphabet."""
-    return [(value, [it for it in elements if it[column] == value]) for value in sorted({it[column] for it in elements})]
+    return [(value, [it for it in elements if it[column] == value])
+            for value in sorted({it[column] for it in elements})]
 
 
 def limits_of_shifts(elements, limits):
@@ -171,19 +188,22 @@ def limits_of_shifts(elements, limits):
 
 
 def limits_of_people(elements, limits):
-    """A set for each person, and within it one of cap 1 for the wishes of each day and one for the two elements of each wish."""
+    """A set for each person, and within it one of cap 1 for the wishes of each day and one for the
+    two elements of each wish."""
     columns = ("day", "shift") if "day" in elements[0] else ("shift",)
     for person, group in groups_by("person", elements):
         most, within = limits[person][0], []
         for column in columns:
-            within += [same for _, same in groups_by(column, group) if len(same) > 1 and same not in within]
+            within += [same for _, same in groups_by(column, group) if len(same) > 1
+                       and same not in within]
         yield most, group
         if most > 1:
             yield from ((1, same) for same in within)
 
 
 def print_limits(kind, word, limits):
-    """Prints a matroid: the first line, and a line for each limit with its number and its elements."""
+    """Prints a matroid: the first line, and a line for each limit with its number and its
+    elements."""
     print(kind, len(limits))
     for number, elements in limits:
         print(word, number, *(it["name"] for it in elements))
@@ -193,11 +213,13 @@ def main():
     """Prints the description."""
     if len(sys.argv) != 3:
         sys.exit("usage: python3 examples/from_csv.py WISHES.csv LIMITS.csv")
-    wishes, limits = rows_of(sys.argv[1], ("person", "shift", "gain"), ("day", "must", "last")), limits_of(sys.argv[2])
+    wishes, limits = rows_of(sys.argv[1], ("person", "shift", "gain"),
+                             ("day", "must", "last")), limits_of(sys.argv[2])
     refuse_faults(wishes, limits, sys.argv[2])
     elements = elements_of(wishes, limits)
     weights = weights_of(elements, limits)
-    shifts, people = list(limits_of_shifts(elements, limits)), list(limits_of_people(elements, limits))
+    shifts = list(limits_of_shifts(elements, limits))
+    people = list(limits_of_people(elements, limits))
     is_nested = "day" in wishes[0] or len(elements) > len(wishes)
     print("matroids 2", f"pair {len(elements)}", sep="\n")
     print("elements", *(it["name"] for it in elements))

@@ -1,18 +1,27 @@
-"""python3 tests/shown.py [PROGRAM]: runs every command that the documents show, and compares every output that they show byte for byte.
+"""python3 tests/shown.py [PROGRAM]: runs every command that the documents show, and compares every
+output that they show byte for byte.
 
-The documents are README.md, examples/README.md, docs/FORMATS.md, docs/COOKBOOK.md, docs/MANY.md and docs/CALLING.md, and the program is
-crates/mat_main/out/mat_main unless another is named. In the documents
-- a block marked `console` has commands, each behind '$ ', and below each all that it prints; each ends with the status 0;
+The documents are README.md, examples/README.md, docs/FORMATS.md, docs/COOKBOOK.md, docs/MANY.md and
+docs/CALLING.md, and the program is crates/mat_main/out/mat_main unless another is named. In the
+documents
+- a block marked `console` has commands, each behind '$ ', and below each all that it prints; each
+  ends with the status 0;
 - a block below the comment '<!-- printed by: COMMAND -->' is what the command prints;
-- a block below the comment '<!-- from: FILE -->' stands in the file word for word, but for what a line '..' leaves out;
-- a block that begins with 'matroids' is a canonical description, and one that begins with 'jobs' a list of jobs that is answered; below the
-  comment '<!-- saved as: NAME -->' it is a file for the commands further down;
+- a block below the comment '<!-- from: FILE -->' stands in the file word for word, but for what a
+  line '..' leaves out;
+- a block that begins with 'matroids' is a canonical description, and one that begins with 'jobs' a
+  list of jobs that is answered; below the comment '<!-- saved as: NAME -->' it is a file for the
+  commands further down;
 - a block marked `sh` is not run;
-- './matbench ..' within a line is run and ends with 0, but where it names no file of its own, as in './matbench show FILE';
-- a row of a table that begins with the number of a line tells that line of a file in the heading above;
-- a link within the repository leads to a file, and to a heading where it names one; of all other documents, the links alone are followed.
-The text of --help is compared with the one that the launcher prints where nothing is built. Commands run in a new folder that has the
-program as `matbench` beside the folders of the repository, and which stands for /tmp too. What is wrong is printed; the last line is
+- './matbench ..' within a line is run and ends with 0, but where it names no file of its own, as in
+  './matbench show FILE';
+- a row of a table that begins with the number of a line tells that line of a file in the heading
+  above;
+- a link within the repository leads to a file, and to a heading where it names one; of all other
+  documents, the links alone are followed.
+The text of --help is compared with the one that the launcher prints where nothing is built.
+Commands run in a new folder that has the program as `matbench` beside the folders of the
+repository, and which stands for /tmp too. What is wrong is printed; the last line is
 `N passed, M failed`, and counts commands, quotes, lines of files and links.
 """
 import glob
@@ -24,9 +33,11 @@ import sys
 import tempfile
 
 TOP = os.path.dirname(os.path.dirname(os.path.abspath(__file__)))
-DOCUMENTS = ("README.md", "examples/README.md", "docs/FORMATS.md", "docs/COOKBOOK.md", "docs/MANY.md", "docs/CALLING.md")
+DOCUMENTS = ("README.md", "examples/README.md", "docs/FORMATS.md", "docs/COOKBOOK.md",
+             "docs/MANY.md", "docs/CALLING.md")
 OPEN_WORD = re.compile(r"(?<![\w.])(?:FILE|CERT|WIT|LIST|RUNG|KIND|SIZE|SEED|K|W)(?!\w)")
-COUNTS = {"commands": 0, "outputs": 0, "blocks not run": 0, "quotes": 0, "lines of files": 0, "links": 0, "wrong": 0}
+COUNTS = {"commands": 0, "outputs": 0, "blocks not run": 0, "quotes": 0, "lines of files": 0,
+          "links": 0, "wrong": 0}
 TESTS = ("commands", "quotes", "lines of files", "links")
 LONGEST = 120
 
@@ -41,11 +52,14 @@ def wrong(place, what, wanted="", given=""):
 
 
 def run(folder, command, given=""):
-    """What a command prints, to standard output and standard error in their order, and its status."""
+    """What a command prints, to standard output and standard error in their order, and its
+    status."""
     COUNTS["commands"] += 1
     try:
-        done = subprocess.run(["sh", "-c", command.replace("/tmp/", folder + "/")], cwd=folder, input=given.encode(),
-                              stdout=subprocess.PIPE, stderr=subprocess.STDOUT, timeout=LONGEST, check=False)
+        done = subprocess.run(["sh", "-c", command.replace("/tmp/", folder + "/")], cwd=folder,
+                              input=given.encode(),
+                              stdout=subprocess.PIPE, stderr=subprocess.STDOUT, timeout=LONGEST,
+                              check=False)
     except subprocess.TimeoutExpired:
         return "", f"no status after {LONGEST} s"
     return done.stdout.decode("utf-8", "replace"), done.returncode
@@ -60,7 +74,8 @@ def compare(folder, place, command, wanted, given=""):
 
 
 def blocks_of(text):
-    """The text without its blocks, and each block: its line, its mark, the comment above it, and what it holds."""
+    """The text without its blocks, and each block: its line, its mark, the comment above it, and
+    what it holds."""
     prose, blocks, at = [], [], None
     lines = text.splitlines()
     for number, line in enumerate(lines, 1):
@@ -113,7 +128,8 @@ def try_block(folder, place, mark, comment, lines):
     elif comment.startswith("<!-- printed by: "):
         compare(folder, place, comment[len("<!-- printed by: "):-len(" -->")], text)
     elif lines[0].startswith("matroids "):
-        compare(folder, place, "./matbench show -" if lines[0] == "matroids 1" else "./matbench convert -", text, text)
+        compare(folder, place, "./matbench show -" if lines[0] == "matroids 1"
+                else "./matbench convert -", text, text)
     elif lines[0].startswith("jobs "):
         status = run(folder, "./matbench batch -", text)[1]
         if status != 0:
@@ -122,7 +138,8 @@ def try_block(folder, place, mark, comment, lines):
         COUNTS["quotes"] += 1
         wrong(place, "a block that is not told by its mark, a comment or its first word")
     if comment.startswith("<!-- saved as: "):
-        with open(os.path.join(folder, comment[len("<!-- saved as: "):-len(" -->")]), "w", encoding="ascii") as file:
+        with open(os.path.join(folder, comment[len("<!-- saved as: "):-len(" -->")]), "w",
+                  encoding="ascii") as file:
             file.write(text)
 
 
@@ -144,7 +161,8 @@ def try_rows(name, prose):
     files = []
     for number, line in enumerate(prose, 1):
         if line.startswith("## "):
-            files = [os.path.join(TOP, "examples", word) for word in re.findall(r"`(\w+\.txt)`", line)]
+            files = [os.path.join(TOP, "examples", word)
+                     for word in re.findall(r"`(\w+\.txt)`", line)]
         hit = re.match(r"\| (\d+)\b[^|]*\| `([^`]*)`", line)
         if hit and files and os.path.isfile(files[0]):
             COUNTS["lines of files"] += 1
@@ -170,7 +188,8 @@ def try_links(name, prose):
                 continue
             COUNTS["links"] += 1
             path, _, anchor = target.partition("#")
-            path = os.path.normpath(os.path.join(TOP, os.path.dirname(name), path)) if path else os.path.join(TOP, name)
+            path = os.path.join(os.path.dirname(name), path) if path else name
+            path = os.path.normpath(os.path.join(TOP, path))
             if not os.path.exists(path) or anchor and anchor not in anchors_of(path):
                 wrong(f"{name}:{number}", f"a link that leads nowhere: {target}")
 
@@ -188,7 +207,8 @@ def try_document(folder, name):
 
 def try_links_of_others():
     """Follows the links of the documents of which nothing else is tried."""
-    for path in sorted(glob.glob(os.path.join(TOP, "*.md")) + glob.glob(os.path.join(TOP, "*", "*.md"))):
+    for path in sorted(glob.glob(os.path.join(TOP, "*.md"))
+                       + glob.glob(os.path.join(TOP, "*", "*.md"))):
         name = os.path.relpath(path, TOP)
         if name not in DOCUMENTS:
             with open(path, encoding="utf-8") as file:
@@ -201,7 +221,8 @@ def try_help(folder):
     os.makedirs(os.path.join(bare, "crates/mat_main/src"))
     shutil.copy(os.path.join(TOP, "matbench"), bare)
     shutil.copytree(os.path.join(TOP, "launcher"), os.path.join(bare, "launcher"))
-    shutil.copy(os.path.join(TOP, "crates/mat_main/src/help.rt"), os.path.join(bare, "crates/mat_main/src"))
+    shutil.copy(os.path.join(TOP, "crates/mat_main/src/help.rt"),
+                os.path.join(bare, "crates/mat_main/src"))
     printed, status = run(folder, "./bare/matbench --help")
     if status != 0 or max(map(len, printed.splitlines()), default=0) > 100:
         wrong("matbench", f"--help ends with {status}, or has a line of more than 100 columns")
@@ -210,9 +231,11 @@ def try_help(folder):
 
 def main():
     """Tries each document with the program."""
-    program = os.path.abspath(sys.argv[1] if len(sys.argv) > 1 else os.path.join(TOP, "crates/mat_main/out/mat_main"))
+    program = os.path.abspath(sys.argv[1] if len(sys.argv) > 1
+                              else os.path.join(TOP, "crates/mat_main/out/mat_main"))
     if not os.access(program, os.X_OK):
-        sys.exit(f"shown.py: {program}: there is no such program; ./matbench --version puts it there")
+        sys.exit(f"shown.py: {program}: there is no such program; "
+                 "./matbench --version puts it there")
     folder = tempfile.mkdtemp(prefix="shown")
     os.symlink(program, os.path.join(folder, "matbench"))
     # The scripts of examples/many/ take this program then.
@@ -227,7 +250,8 @@ def main():
     finally:
         shutil.rmtree(folder)
     print(", ".join(f"{number} {what}" for what, number in COUNTS.items()))
-    print(f"{sum(COUNTS[what] for what in TESTS) - COUNTS['wrong']} passed, {COUNTS['wrong']} failed")
+    passed = sum(COUNTS[what] for what in TESTS) - COUNTS["wrong"]
+    print(f"{passed} passed, {COUNTS['wrong']} failed")
     sys.exit(1 if COUNTS["wrong"] else 0)
 
 

@@ -1,13 +1,18 @@
 #!/usr/bin/env python3
-"""Runs random problems: `soak.py SECONDS SEED [PROGRAM]` or `soak.py --problems COUNT SEED [PROGRAM]`, at the top of the repository.
+"""Runs random problems: `soak.py SECONDS SEED [PROGRAM]` or
+`soak.py --problems COUNT SEED [PROGRAM]`, at the top of the repository.
 
-Problems of every form, with matroids of every kind within one another, are solved by every command that takes them, with one and with four
-workers; `check` has to say yes to each answer, and both answers have to be the same bytes. Commands for other forms have to end with
-the status of a wrong shape. Where both matroids are of kinds that have witnesses, `verify` has to say yes to the witness of each rung. Then bytes,
-words and lines of the texts are changed, and `show`, `check` and `verify` have to end with a status and a note that they can have. It ends with 1
-and keeps the files at the first run that ends otherwise, takes more than ten seconds, or has not ended after sixty, when it is killed. With
---problems it runs so many problems, however long they take; only a run that has not ended after an hour fails. It prints how many runs of each
-command ended with each status, and last `N passed, M failed`, which counts runs. The program is crates/mat_main/out/mat_main if none is named.
+Problems of every form, with matroids of every kind within one another, are solved by every command
+that takes them, with one and with four workers; `check` has to say yes to each answer, and both
+answers have to be the same bytes. Commands for other forms have to end with the status of a wrong
+shape. Where both matroids are of kinds that have witnesses, `verify` has to say yes to the witness
+of each rung. Then bytes, words and lines of the texts are changed, and `show`, `check` and `verify`
+have to end with a status and a note that they can have. It ends with 1 and keeps the files at the
+first run that ends otherwise, takes more than ten seconds, or has not ended after sixty, when it is
+killed. With --problems it runs so many problems, however long they take; only a run that has not
+ended after an hour fails. It prints how many runs of each command ended with each status, and last
+`N passed, M failed`, which counts runs. The program is crates/mat_main/out/mat_main if none is
+named.
 """
 import collections
 import os
@@ -19,12 +24,16 @@ import sys
 import tempfile
 import time
 
-COMMANDS = {'pair': ['intersect'], 'one': ['best', 'pack', 'cover', 'union'], 'list': ['union'], 'graph': ['trees 1', 'trees 2', 'trees 3'],
-            'rooted': ['arborescence', 'disjoint 1', 'disjoint 2', 'cuts'], 'coloured': ['rainbow'], 'table': ['assign']}
+COMMANDS = {'pair': ['intersect'], 'one': ['best', 'pack', 'cover', 'union'], 'list': ['union'],
+            'graph': ['trees 1', 'trees 2', 'trees 3'],
+            'rooted': ['arborescence', 'disjoint 1', 'disjoint 2', 'cuts'], 'coloured': ['rainbow'],
+            'table': ['assign']}
 EVERY = sorted({command for commands in COMMANDS.values() for command in commands})
 WORD = '[A-Za-z]+'
-NOTES = {0: '', 1: f'no {WORD} [0-9]+ [0-9]+\n', 2: 'refused: usage\n', 3: f'refused: description [0-9]+ {WORD} line [0-9]+\n',
-         4: f'refused: certificate [0-9]+ {WORD} line [0-9]+\n', 9: 'refused: wrong shape\n', 11: 'refused: unwitnessed\n',
+NOTES = {0: '', 1: f'no {WORD} [0-9]+ [0-9]+\n', 2: 'refused: usage\n',
+         3: f'refused: description [0-9]+ {WORD} line [0-9]+\n',
+         4: f'refused: certificate [0-9]+ {WORD} line [0-9]+\n', 9: 'refused: wrong shape\n',
+         11: 'refused: unwitnessed\n',
          12: f'refused: witness [0-9]+ {WORD} line [0-9]+\n', 13: 'refused: bad cost\n',
          14: 'refused: list line [0-9]+\n'}
 SECONDS, LONGEST, AN_HOUR = 10, 60, 3600
@@ -52,7 +61,8 @@ def partition(numbers, n):
     classes = [[] for _ in range(numbers.randint(1, 4))]
     for x in range(n):
         numbers.choice(classes).append(x)
-    return [f'partition {len(classes)}'] + [line('class', numbers.randint(0, 3), *members) for members in classes]
+    return [f'partition {len(classes)}'] + [line('class', numbers.randint(0, 3), *members)
+                                            for members in classes]
 
 
 def laminar(numbers, n):
@@ -70,12 +80,14 @@ def laminar(numbers, n):
 
 def graphic(numbers, n):
     vertices = numbers.randint(1, 6)
-    return [f'graphic {vertices}'] + [line('edge', numbers.randrange(vertices), numbers.randrange(vertices)) for _ in range(n)]
+    return [f'graphic {vertices}'] + [line('edge', numbers.randrange(vertices),
+                                           numbers.randrange(vertices)) for _ in range(n)]
 
 
 def gf2(numbers, n):
     digits = numbers.randint(1, 5)
-    return [f'gf2 {digits}'] + ['column ' + format(numbers.randrange(1 << digits), f'0{digits}b') for _ in range(n)]
+    return [f'gf2 {digits}'] + ['column ' + format(numbers.randrange(1 << digits), f'0{digits}b')
+                                for _ in range(n)]
 
 
 def transversal(numbers, n):
@@ -85,8 +97,10 @@ def transversal(numbers, n):
 
 def gammoid(numbers, n):
     vertices = n + numbers.randint(1, 5)
-    arcs = [line('arc', numbers.randrange(vertices), numbers.randrange(vertices)) for _ in range(numbers.randint(0, 3 * vertices))]
-    return ([f'gammoid {vertices} {len(arcs)}', line('sources', *chosen(numbers, vertices)), line('targets', *numbers.sample(range(vertices), n))]
+    arcs = [line('arc', numbers.randrange(vertices), numbers.randrange(vertices))
+            for _ in range(numbers.randint(0, 3 * vertices))]
+    return ([f'gammoid {vertices} {len(arcs)}', line('sources', *chosen(numbers, vertices)),
+             line('targets', *numbers.sample(range(vertices), n))]
             + arcs)
 
 
@@ -106,7 +120,8 @@ def matroid(numbers, n, depth=0):
     if kind == 10:
         return [line('contract', *chosen(numbers, n, .2))] + matroid(numbers, n, depth + 1)
     count = numbers.randint(1, 3)
-    return [f'union {count}'] + [text for _ in range(count) for text in matroid(numbers, n, depth + 2)]
+    return [f'union {count}'] + [text for _ in range(count)
+                                 for text in matroid(numbers, n, depth + 2)]
 
 
 def problem(numbers):
@@ -119,17 +134,22 @@ def problem(numbers):
         body = [f'pair {n}', weights] + matroid(numbers, n) + matroid(numbers, n)
     elif form in ('one', 'list'):
         count = 1 if form == 'one' else numbers.randint(2, 4)
-        body = [f'list {n} {count}', weights] + [text for _ in range(count) for text in matroid(numbers, n)]
+        body = [f'list {n} {count}', weights]
+        body += [text for _ in range(count) for text in matroid(numbers, n)]
     elif form == 'graph':
         body = [f'graph {vertices} {n}'] + ['edge ' + pair for pair in ends]
     elif form == 'rooted':
-        costs = [str(numbers.randint(0, 9)) if numbers.random() < .9 else weight(numbers) for _ in range(n)]
-        body = [f'rooted {vertices} {n} {numbers.randrange(vertices)}'] + [line('arc', pair, cost) for pair, cost in zip(ends, costs)]
+        costs = [str(numbers.randint(0, 9)) if numbers.random() < .9 else weight(numbers)
+                 for _ in range(n)]
+        body = [f'rooted {vertices} {n} {numbers.randrange(vertices)}']
+        body += [line('arc', pair, cost) for pair, cost in zip(ends, costs)]
     elif form == 'coloured':
         colours = numbers.randint(1, 6)
-        body = [f'coloured {vertices} {n} {colours}'] + [line('edge', pair, numbers.randrange(colours), weight(numbers)) for pair in ends]
+        body = [f'coloured {vertices} {n} {colours}']
+        body += [line('edge', pair, numbers.randrange(colours), weight(numbers)) for pair in ends]
     else:
-        body = [f'table {vertices} {vertices} {n}'] + [line('cell', pair, weight(numbers)) for pair in ends]
+        body = [f'table {vertices} {vertices} {n}']
+        body += [line('cell', pair, weight(numbers)) for pair in ends]
     return form, '\n'.join(['matroids 1'] + body + ['end', '']).encode()
 
 
@@ -149,15 +169,18 @@ def changed(numbers, text):
         return b'\n'.join(lines[:at] + [numbers.choice(lines)] + lines[at:])
     words = lines[at].split(b' ')
     place = numbers.randrange(len(words))
-    words[place] = numbers.choice([b'0', b'1', b'-1', b'2', b'500', b'501', b'00', b'1:1', b'1:0', b'', words[place] + b' 1', b'end', b'x'])
+    words[place] = numbers.choice([b'0', b'1', b'-1', b'2', b'500', b'501', b'00', b'1:1', b'1:0',
+                                   b'', words[place] + b' 1', b'end', b'x'])
     return b'\n'.join(lines[:at] + [b' '.join(words)] + lines[at + 1:])
 
 
 class Soak:
-    """The program, the folder of its files, what its runs ended with, and after how many seconds a run is too long, and killed."""
+    """The program, the folder of its files, what its runs ended with, and after how many seconds a
+    run is too long, and killed."""
 
     def __init__(self, program, folder, seconds, longest):
-        self.program, self.folder, self.ends = os.path.abspath(program), folder, collections.Counter()
+        self.program, self.folder = os.path.abspath(program), folder
+        self.ends = collections.Counter()
         self.seconds, self.longest = seconds, longest
 
     def write(self, name, text):
@@ -168,14 +191,16 @@ class Soak:
         """The output of a run that has to end with one of these statuses."""
         begin = time.monotonic()
         try:
-            run = subprocess.run([self.program] + words.split(), cwd=self.folder, capture_output=True, timeout=self.longest)
+            run = subprocess.run([self.program] + words.split(), cwd=self.folder,
+                                 capture_output=True, timeout=self.longest)
         except subprocess.TimeoutExpired:
             self.fail(f'{words}: not ended after {self.longest} s')
         took = time.monotonic() - begin
         note = run.stderr.decode('latin1')
         self.ends[words.split()[0], run.returncode] += 1
         has_output = bool(run.returncode and run.stdout)
-        if run.returncode not in statuses or not re.fullmatch(NOTES.get(run.returncode, ''), note) or has_output or took > self.seconds:
+        has_note = re.fullmatch(NOTES.get(run.returncode, ''), note)
+        if run.returncode not in statuses or not has_note or has_output or took > self.seconds:
             self.fail(f'{words}: status {run.returncode}, note {note!r}, {took:.1f} s')
         return run.stdout
 
@@ -201,7 +226,8 @@ class Soak:
         if command == 'cuts':
             return
         name, *number = command.split()
-        self.expect(f'{command}: other bytes for four workers', self.run(' '.join([name, '--workers 4', *number, 'f']), (0,)) == answer)
+        self.expect(f'{command}: other bytes for four workers',
+                    self.run(' '.join([name, '--workers 4', *number, 'f']), (0,)) == answer)
         self.write('c', answer)
         self.expect(f'{command}: an answer is not right', self.run('check f c', (0,)) == b'yes\n')
 
@@ -215,7 +241,8 @@ class Soak:
             if not witness:
                 return
             self.write('w', witness)
-            self.expect(f'rung {rung}: a witness does not show it', self.run(f'verify {rung} f c w', (0,)) == b'yes\n')
+            self.expect(f'rung {rung}: a witness does not show it',
+                        self.run(f'verify {rung} f c w', (0,)) == b'yes\n')
         self.write('w', changed(numbers, witness))
         self.run(f'verify {rung} f c w', (0, 1, 12))
 
@@ -228,8 +255,10 @@ class Soak:
             self.solve(command)
         if form == 'pair':
             self.witness(numbers)
-        self.write('l', '\n'.join(['jobs 1'] + [f'job {c} f' for c in COMMANDS[form] if c != 'cuts'] + ['end', '']).encode())
-        self.expect('jobs: other bytes for four workers', self.run('batch l', (0,)) == self.run('batch --workers 4 l', (0,)))
+        self.write('l', '\n'.join(['jobs 1'] + [f'job {c} f' for c in COMMANDS[form] if c != 'cuts']
+                                  + ['end', '']).encode())
+        self.expect('jobs: other bytes for four workers',
+                    self.run('batch l', (0,)) == self.run('batch --workers 4 l', (0,)))
         other = numbers.choice(EVERY)
         if other not in COMMANDS[form]:
             self.run(f'{other} f', (9,))
@@ -251,12 +280,15 @@ def main():
     try:
         limit, seed, *rest = float(words[by_count]), int(words[by_count + 1]), *words[by_count + 2:]
     except (IndexError, ValueError):
-        sys.exit('usage: soak.py SECONDS SEED [PROGRAM], or soak.py --problems COUNT SEED [PROGRAM]')
+        sys.exit('usage: soak.py SECONDS SEED [PROGRAM], '
+                 'or soak.py --problems COUNT SEED [PROGRAM]')
     program = rest[0] if rest else 'crates/mat_main/out/mat_main'
     if not os.access(program, os.X_OK):
-        sys.exit(f'soak.py: {program}: there is no such program; ./matbench --version puts it there')
+        sys.exit(f'soak.py: {program}: there is no such program; '
+                 './matbench --version puts it there')
     numbers, began, done = random.Random(seed), time.monotonic(), 0
-    soak = Soak(program, tempfile.mkdtemp(), *((AN_HOUR, AN_HOUR) if by_count else (SECONDS, LONGEST)))
+    soak = Soak(program, tempfile.mkdtemp(),
+                *((AN_HOUR, AN_HOUR) if by_count else (SECONDS, LONGEST)))
     while (done if by_count else time.monotonic() - began) < limit:
         soak.problem(numbers)
         done += 1

@@ -142,6 +142,10 @@ def table_description(graph: Graph, rows: Iterable[Hashable], weight: str = WEIG
     names the attribute of its edges, 1 where one has none."""
     _hold_to_kind(graph, False)
     row = {node: place for place, node in enumerate(dict.fromkeys(rows))}
+    nodes = set(graph.nodes)
+    for node in row:
+        if node not in nodes:
+            raise ValueError(f"the graph has no node {node!r}, which is to be a row")
     others = (node for node in graph.nodes if node not in row)
     column = {node: place for place, node in enumerate(others)}
     _hold_to_range(len(row), "rows")

@@ -1,9 +1,11 @@
-"""answers.py PROGRAM CALL LINE [BROWSER..]: compares the answers of the program with those of the C library, the static library, the Python module
-and the page, byte for byte.
+"""answers.py PROGRAM CALL LINE [BROWSER..]: compares the answers of the program with those of the C
+library, the static library, the Python module and the page, byte for byte.
 
-The problems are those of examples/ and 200 random ones. PROGRAM is the program, CALL what tests/call.c is compiled to, and LINE what tests/line.c
-is; CALL or LINE is `-` if it is not there, and then the answers of that library are not compared. The page is tried in each BROWSER: as files from
-a server, and as one file from a folder. There every example is chosen, solved and checked as a user does.
+The problems are those of examples/ and 200 random ones. PROGRAM is the program, CALL what
+tests/call.c is compiled to, and LINE what tests/line.c is; CALL or LINE is `-` if it is not there,
+and then the answers of that library are not compared. The page is tried in each BROWSER: as files
+from a server, and as one file from a folder. There every example is chosen, solved and checked as a
+user does.
 """
 import json
 import os
@@ -54,14 +56,16 @@ class Compared:
         self.counts[way] = self.counts.get(way, 0) + 1
         if wanted != given:
             self.wrong += 1
-            print(f"{way}: {what}: the program gives {str(wanted)[:300]}, it gives {str(given)[:300]}")
+            print(f"{way}: {what}: the program gives {str(wanted)[:300]}, "
+                  f"it gives {str(given)[:300]}")
 
     def by_program(self, words, files):
         """The status, the output and the note of the program, over files in a new folder."""
         with tempfile.TemporaryDirectory() as folder:
             for name, text in files.items():
                 pathlib.Path(folder, name).write_bytes(text)
-            ended = subprocess.run([self.program, *words], cwd=folder, capture_output=True, check=False)
+            ended = subprocess.run([self.program, *words], cwd=folder, capture_output=True,
+                                   check=False)
             wanted = (ended.returncode, ended.stdout, ended.stderr)
             if self.caller:
                 self.by_library(words, files, folder, wanted)
@@ -76,14 +80,18 @@ class Compared:
         self.hold("C", words, wanted, (ended.returncode, ended.stdout, ended.stderr))
 
     def by_line(self, words, files, folder, wanted):
-        """Makes a call by the static library, and where it has an output, once more with room for one byte less."""
+        """Makes a call by the static library, and where it has an output, once more with room for
+        one byte less."""
         given = [" ".join(words), *(f"{name}={name}" for name in files)]
         ended = subprocess.run([self.line, *given], cwd=folder, capture_output=True, check=False)
         self.hold("static library", words, wanted, (ended.returncode, ended.stdout, ended.stderr))
         if wanted[1]:
             room = len(wanted[1]) - 1
-            ended = subprocess.run([self.line, "--room", str(room), *given], cwd=folder, capture_output=True, check=False)
-            self.hold("static library, cut off", words, (6, wanted[1][:room], b"refused: write fault\n"), (ended.returncode, ended.stdout, ended.stderr))
+            ended = subprocess.run([self.line, "--room", str(room), *given], cwd=folder,
+                                   capture_output=True, check=False)
+            self.hold("static library, cut off", words,
+                      (6, wanted[1][:room], b"refused: write fault\n"),
+                      (ended.returncode, ended.stdout, ended.stderr))
 
     def call(self, words, files):
         """Makes a call by the program, by C and by Python, and answers what the program gives."""
@@ -95,7 +103,8 @@ class Compared:
 
 
 def solved(compared, name, text):
-    """The calls about a problem: words, files, and what the program gives. Each answer is checked too, and has to be right."""
+    """The calls about a problem: words, files, and what the program gives. Each answer is checked
+    too, and has to be right."""
     commands = [*soak.COMMANDS[kind_of(text)], "show", "convert"]
     for command in commands:
         words = [*command.split(), "f"]
@@ -109,12 +118,14 @@ def solved(compared, name, text):
             yield from shown(compared, f"{name}, {command}", files)
             if words[0] == "intersect":
                 yield from witnessed(compared, f"{name}, {command}", files)
-    yield listed(compared, text, [command for command in commands if command not in ("show", "convert", "cuts")])
+    yield listed(compared, text, [command for command in commands
+                                  if command not in ("show", "convert", "cuts")])
 
 
 def listed(compared, text, commands):
     """The call that answers a list of jobs about a problem, one for each command."""
-    files = {"f": text, "c": "\n".join(["jobs 1", *(f"job {command} f" for command in commands), "end", ""]).encode()}
+    files = {"f": text, "c": "\n".join(["jobs 1", *(f"job {command} f" for command in commands),
+                                        "end", ""]).encode()}
     return ["batch", "c"], files, compared.call(["batch", "c"], files)
 
 
@@ -126,7 +137,8 @@ def sampled(compared):
 
 
 def witnessed(compared, what, files):
-    """The calls about a witness for a rung of a right answer. Where there is one, it shows the rung."""
+    """The calls about a witness for a rung of a right answer. Where there is one, it shows the
+    rung."""
     words = ["witness", "1", "f", "c"]
     wanted = compared.call(words, files)
     yield words, files, wanted
@@ -144,7 +156,8 @@ def refused(compared, text):
 
 
 def shown(compared, what, files):
-    """The calls that tell and draw a right answer. The functions of the Python module give what the program writes."""
+    """The calls that tell and draw a right answer. The functions of the Python module give what the
+    program writes."""
     for word, function in (("--tell", matbench.tell), ("--picture", matbench.picture)):
         words = [word, "f", "c"]
         wanted = compared.call(words, files)
@@ -168,9 +181,11 @@ def compare_page(compared, browser, calls):
     """Makes the calls in the page that lies open, by what runs its own."""
     for place in range(0, len(calls), BLOCK):
         block = calls[place:place + BLOCK]
-        asked = [[words, {name: text.decode() for name, text in files.items()}] for words, files, _ in block]
+        asked = [[words, {name: text.decode() for name, text in files.items()}] for words, files,
+                 _ in block]
         for (words, _, wanted), given in zip(block, browser.run(f"{RUN_ALL}({json.dumps(asked)})")):
-            compared.hold(f"page in {browser.name}", words, [wanted[0], wanted[1].decode(), wanted[2].decode().rstrip("\n")], given)
+            compared.hold(f"page in {browser.name}", words,
+                          [wanted[0], wanted[1].decode(), wanted[2].decode().rstrip("\n")], given)
 
 
 #: The answer in words and the text of its picture, as they stand in the page.
@@ -179,25 +194,31 @@ SHOWN = """[[...document.querySelectorAll(".told p")].map((it) => it.textContent
 
 
 def compare_examples(compared, browser, way, answers):
-    """Chooses each example of the page that lies open, and solves and checks it by its buttons. It is told and drawn after both."""
+    """Chooses each example of the page that lies open, and solves and checks it by its buttons. It
+    is told and drawn after both."""
     way = f"{way} in {browser.name}"
     browser.wait("document.querySelector('#command').value")
-    examples = browser.run("[...document.querySelectorAll('#example option')].map((it) => [it.value, it.textContent]).filter((it) => it[0])")
+    examples = browser.run("""[...document.querySelectorAll('#example option')]
+        .map((it) => [it.value, it.textContent]).filter((it) => it[0])""")
     compared.hold(way, "how many examples there are", len(answers), len(examples))
     for value, title in examples:
         name = title.split(":")[0]
         pages.choose(browser, "#example", value)
         command = browser.run("document.querySelector('#command').value")
-        count = browser.run("document.querySelector('#count').disabled ? '' : document.querySelector('#count').value")
+        count = browser.run("""((it) => it.disabled ? "" : it.value)(
+            document.querySelector("#count"))""")
         pages.click_and_wait(browser, "#solve")
         wanted = compared.by_program([*f"{command} {count}".split(), "f"], {"f": answers[name]})
-        compared.hold(way, title, (wanted[0], wanted[1].decode()), (0, browser.run("document.querySelector('#answer').value")))
+        compared.hold(way, title, (wanted[0], wanted[1].decode()),
+                      (0, browser.run("document.querySelector('#answer').value")))
         if command != "cuts":
             files = {"f": answers[name], "c": wanted[1]}
-            told, drawn = (compared.by_program([word, "f", "c"], files)[1].decode() for word in ("--tell", "--picture"))
+            told, drawn = (compared.by_program([word, "f", "c"], files)[1].decode()
+                           for word in ("--tell", "--picture"))
             compared.hold(f"{way}, shown", title, [told, drawn], browser.run(SHOWN))
             pages.click_and_wait(browser, "#check")
-            compared.hold(f"{way}, yes", title, "yes: the answer is right.", pages.state(browser)[:25])
+            compared.hold(f"{way}, yes", title, "yes: the answer is right.",
+                          pages.state(browser)[:25])
             compared.hold(f"{way}, shown", title, [told, drawn], browser.run(SHOWN))
 
 
@@ -207,10 +228,12 @@ def compare_in(compared, program, calls, examples):
         browser.open(address)
         compare_page(compared, browser, calls)
         compare_examples(compared, browser, "page from a server", examples)
-        compared.hold(f"page in {browser.name}", "what the browser complains of", [], browser.complaints())
+        compared.hold(f"page in {browser.name}", "what the browser complains of", [],
+                      browser.complaints())
         browser.open(pages.ONE_FILE)
         compare_examples(compared, browser, "page from a folder", examples)
-        compared.hold(f"page in {browser.name}", "what the browser complains of", [], browser.complaints())
+        compared.hold(f"page in {browser.name}", "what the browser complains of", [],
+                      browser.complaints())
 
 
 def main():
@@ -225,7 +248,8 @@ def main():
             examples[name] = text
     for program in sys.argv[4:]:
         compare_in(compared, program, calls, examples)
-    print("answers.py:", ", ".join(f"{way} {count}" for way, count in compared.counts.items()), f"compared, {compared.wrong} wrong")
+    print("answers.py:", ", ".join(f"{way} {count}" for way, count in compared.counts.items()),
+          f"compared, {compared.wrong} wrong")
     return 1 if compared.wrong else 0
 
 

@@ -1,6 +1,8 @@
-"""A browser without a window that a test drives: pages, what is typed and clicked there, and pictures of it.
+"""A browser without a window that a test drives: pages, what is typed and clicked there, and
+pictures of it.
 
-Chromium is driven by its own debugging protocol, Firefox by WebDriver BiDi. Both have the same calls here.
+Chromium is driven by its own debugging protocol, Firefox by WebDriver BiDi. Both have the same
+calls here.
 """
 import atexit
 import base64
@@ -14,28 +16,33 @@ import time
 
 import websocket
 
-#: How long a test waits for the browser, in seconds, before it fails. On a machine that is busy with other work a page may take minutes.
+#: How long a test waits for the browser, in seconds, before it fails. On a machine that is busy
+#: with other work a page may take minutes.
 LONGEST = 300
 
-#: Drops the file of an element that takes files, which it removes, on what is at a place of the window.
+#: Drops the file of an element that takes files, which it removes, on what is at a place of the
+#: window.
 DROP = """((x, y) => {
   const [from, dataTransfer] = [document.querySelector("#dropped"), new DataTransfer()];
   dataTransfer.items.add(from.files[0]);
   from.remove();
   for (const kind of ["dragenter", "dragover", "drop"]) {
-    document.elementFromPoint(x, y).dispatchEvent(new DragEvent(kind, { dataTransfer, bubbles: true, cancelable: true }));
+    const event = new DragEvent(kind, { dataTransfer, bubbles: true, cancelable: true });
+    document.elementFromPoint(x, y).dispatchEvent(event);
   }
 })(%s, %s)"""
 
 
 def start(program=None):
-    """This browser, or else the one that the variable BROWSER names, or CHROMIUM, or else chromium."""
+    """This browser, or else the one that the variable BROWSER names, or CHROMIUM, or else
+    chromium."""
     program = program or os.environ.get("BROWSER") or os.environ.get("CHROMIUM") or "chromium"
     return Firefox(program) if "firefox" in os.path.basename(program) else Chromium(program)
 
 
 class Browser:
-    """A browser with one page. What is done in the same way in each stands here, by `ask` and `run`, which each has of its own."""
+    """A browser with one page. What is done in the same way in each stands here, by `ask` and
+    `run`, which each has of its own."""
 
     #: What it is called, and the command of its protocol that ends it.
     name = last_command = None
@@ -69,11 +76,13 @@ class Browser:
 
     def _start(self, words, **more):
         """Starts the browser, which ends with the test at the latest."""
-        self.process = subprocess.Popen(words, stdin=subprocess.DEVNULL, stdout=subprocess.DEVNULL, stderr=subprocess.DEVNULL, **more)
+        self.process = subprocess.Popen(words, stdin=subprocess.DEVNULL, stdout=subprocess.DEVNULL,
+                                        stderr=subprocess.DEVNULL, **more)
         atexit.register(self.process.kill)
 
     def ask(self, method, **params):
-        """Sends a command of the protocol, and waits for its answer. Events that come before it are kept."""
+        """Sends a command of the protocol, and waits for its answer. Events that come before it are
+        kept."""
         self.last += 1
         self._send({"id": self.last, "method": method, "params": params})
         while True:
@@ -98,7 +107,8 @@ class Browser:
         self._resize(*self.size)
 
     def picture(self, path):
-        """A picture of the whole page as a file in PNG. The window is as high as the page while it is taken."""
+        """A picture of the whole page as a file in PNG. The window is as high as the page while it
+        is taken."""
         width, height, scale = self.size
         self._resize(width, max(height, self.run("document.documentElement.scrollHeight")), scale)
         pathlib.Path(path).write_bytes(base64.b64decode(self._screenshot()))
@@ -106,12 +116,14 @@ class Browser:
 
     def _middle_of(self, selector):
         """The place of the middle of an element in the window, which is scrolled to it."""
-        self.run(f"document.querySelector({json.dumps(selector)}).scrollIntoView({{ block: 'nearest' }})")
-        place = f"document.querySelector({json.dumps(selector)}).getBoundingClientRect()"
+        found = f"document.querySelector({json.dumps(selector)})"
+        self.run(f"{found}.scrollIntoView({{ block: 'nearest' }})")
+        place = f"{found}.getBoundingClientRect()"
         return self.run(f"(({{x, y, width, height}}) => [x + width / 2, y + height / 2])({place})")
 
     def complaints(self):
-        """What the browser's console has of the page up to now: errors, warnings and what was not allowed."""
+        """What the browser's console has of the page up to now: errors, warnings and what was not
+        allowed."""
         self.run("null")
         return self._complaints()
 
@@ -137,8 +149,10 @@ class Chromium(Browser):
         super().__init__()
         to_browser, self.to = os.pipe()
         self.answers, from_browser = os.pipe()
-        words = [program, "--headless=new", "--no-sandbox", "--disable-gpu", "--hide-scrollbars", "--no-first-run", "--disable-extensions",
-                 "--disable-background-networking", f"--user-data-dir={self.folder}", "--remote-debugging-pipe", "about:blank"]
+        words = [program, "--headless=new", "--no-sandbox", "--disable-gpu", "--hide-scrollbars",
+                 "--no-first-run", "--disable-extensions",
+                 "--disable-background-networking", f"--user-data-dir={self.folder}",
+                 "--remote-debugging-pipe", "about:blank"]
         # The protocol's pipes are the descriptors 3 and 4 of the browser.
         script = f'exec 8<&{to_browser} 9>&{from_browser} 3<&8 4>&9 8<&- 9>&-; exec "$@"'
         self._start(["bash", "-c", script, "", *words], pass_fds=(to_browser, from_browser))
@@ -165,14 +179,16 @@ class Chromium(Browser):
         return json.loads(text)
 
     def open(self, address):
-        """Opens a page, and waits until it has loaded. What was said of the page before is forgotten."""
+        """Opens a page, and waits until it has loaded. What was said of the page before is
+        forgotten."""
         self.events = []
         self.ask("Page.navigate", url="about:blank")
         self.ask("Page.navigate", url=address)
         self.wait("document.readyState === 'complete'")
 
     def run(self, script):
-        done = self.ask("Runtime.evaluate", expression=script, awaitPromise=True, returnByValue=True)
+        done = self.ask("Runtime.evaluate", expression=script, awaitPromise=True,
+                        returnByValue=True)
         if "exceptionDetails" in done:
             raise RuntimeError(done["exceptionDetails"]["exception"].get("description", str(done)))
         return done["result"].get("value")
@@ -182,21 +198,25 @@ class Chromium(Browser):
         self.ask("Page.addScriptToEvaluateOnNewDocument", source=script)
 
     def _resize(self, width, height, scale):
-        self.ask("Emulation.setDeviceMetricsOverride", width=width, height=height, deviceScaleFactor=scale, mobile=scale > 1)
+        self.ask("Emulation.setDeviceMetricsOverride", width=width, height=height,
+                 deviceScaleFactor=scale, mobile=scale > 1)
 
     def prefer(self, scheme):
         """Has the user prefer `light` or `dark` pages."""
-        self.ask("Emulation.setEmulatedMedia", features=[{"name": "prefers-color-scheme", "value": scheme}])
+        self.ask("Emulation.setEmulatedMedia",
+                 features=[{"name": "prefers-color-scheme", "value": scheme}])
 
     def press(self, key, control=False):
         """Presses a key, with Control or without it, and lets it go."""
-        common = {"key": key, "code": key, "windowsVirtualKeyCode": self.keys[key], "modifiers": 2 if control else 0}
+        common = {"key": key, "code": key, "windowsVirtualKeyCode": self.keys[key], "modifiers": 2
+                  if control else 0}
         self.ask("Input.dispatchKeyEvent", type="keyDown", **common)
         self.ask("Input.dispatchKeyEvent", type="keyUp", **common)
 
     def choose_file(self, path, selector):
         """Chooses a file by an element that takes one."""
-        found = self.ask("Runtime.evaluate", expression=f"document.querySelector({json.dumps(selector)})")
+        found = self.ask("Runtime.evaluate",
+                         expression=f"document.querySelector({json.dumps(selector)})")
         self.ask("DOM.setFileInputFiles", files=[str(path)], objectId=found["result"]["objectId"])
 
     def drop(self, path, selector):
@@ -213,15 +233,17 @@ class Chromium(Browser):
     def count_named(self, role, name):
         """How many parts of the page have this role and name for who uses it by them."""
         nodes = [it for it in self.ask("Accessibility.getFullAXTree")["nodes"] if not it["ignored"]]
-        return sum(it["role"]["value"] == role and it.get("name", {}).get("value", "") == name for it in nodes)
+        return sum(it["role"]["value"] == role and it.get("name", {}).get("value", "") == name
+                   for it in nodes)
 
     def _complaints(self):
         found = []
         for event in self.events:
             if event["method"] == "Runtime.exceptionThrown":
                 found.append(event["params"]["exceptionDetails"]["text"])
-            elif event["method"] == "Log.entryAdded" and event["params"]["entry"]["level"] in ("error", "warning"):
-                found.append(event["params"]["entry"]["text"])
+            elif event["method"] == "Log.entryAdded":
+                entry = event["params"]["entry"]
+                found += [entry["text"]] * (entry["level"] in ("error", "warning"))
         return found
 
     def _screenshot(self):
@@ -234,14 +256,16 @@ class Chromium(Browser):
 
 
 class Firefox(Browser):
-    """Firefox, by WebDriver BiDi. What this has no command for, a script in the browser itself does."""
+    """Firefox, by WebDriver BiDi. What this has no command for, a script in the browser itself
+    does."""
 
     name, last_command = "firefox", "browser.close"
     keys = {"Enter": "\ue007", "Escape": "\ue00c", "Tab": "\ue004"}
 
     def __init__(self, program):
         super().__init__()
-        self._start([program, "--headless", "--no-remote", "--profile", self.folder, "--remote-debugging-port=0", "--remote-allow-system-access",
+        self._start([program, "--headless", "--no-remote", "--profile", self.folder,
+                     "--remote-debugging-port=0", "--remote-allow-system-access",
                      "about:blank"])
         self.socket = websocket.WebSocket(self._port(), "/session", LONGEST)
         self.ask("session.new", capabilities={})
@@ -250,7 +274,8 @@ class Firefox(Browser):
 
     def _port(self):
         """The port that the browser writes to its folder when it listens."""
-        file, end = pathlib.Path(self.folder, "WebDriverBiDiServer.json"), time.monotonic() + LONGEST
+        file, end = pathlib.Path(self.folder,
+                                 "WebDriverBiDiServer.json"), time.monotonic() + LONGEST
         while time.monotonic() < end:
             try:
                 return json.loads(file.read_text())["ws_port"]
@@ -270,7 +295,8 @@ class Firefox(Browser):
         self.ask("browsingContext.navigate", context=self.page, url=address, wait="complete")
 
     def _evaluate(self, script, context):
-        done = self.ask("script.evaluate", expression=script, awaitPromise=True, target={"context": context})
+        done = self.ask("script.evaluate", expression=script, awaitPromise=True,
+                        target={"context": context})
         if done["type"] == "exception":
             raise RuntimeError(done["exceptionDetails"]["text"])
         return done["result"]
@@ -282,42 +308,53 @@ class Firefox(Browser):
         self.ask("script.addPreloadScript", functionDeclaration=f"() => {{ {script} }}")
 
     def _resize(self, width, height, scale):
-        self.ask("browsingContext.setViewport", context=self.page, viewport={"width": width, "height": height}, devicePixelRatio=scale)
+        self.ask("browsingContext.setViewport", context=self.page,
+                 viewport={"width": width, "height": height}, devicePixelRatio=scale)
 
     def prefer(self, scheme):
-        window = self.ask("browsingContext.getTree", **{"moz:scope": "chrome"})["contexts"][0]["context"]
-        self._evaluate(f"gBrowser.selectedBrowser.browsingContext.prefersColorSchemeOverride = {json.dumps(scheme)}", window)
+        window = self.ask("browsingContext.getTree",
+                          **{"moz:scope": "chrome"})["contexts"][0]["context"]
+        context = "gBrowser.selectedBrowser.browsingContext"
+        self._evaluate(f"{context}.prefersColorSchemeOverride = {json.dumps(scheme)}", window)
         self.wait(f"matchMedia('(prefers-color-scheme: {scheme})').matches")
 
     def press(self, key, control=False):
         keys = ["\ue009"] * control + [self.keys[key]]
-        actions = [{"type": "keyDown", "value": it} for it in keys] + [{"type": "keyUp", "value": it} for it in reversed(keys)]
-        self.ask("input.performActions", context=self.page, actions=[{"type": "key", "id": "keyboard", "actions": actions}])
+        actions = [{"type": "keyDown", "value": it}
+                   for it in keys] + [{"type": "keyUp", "value": it} for it in reversed(keys)]
+        self.ask("input.performActions", context=self.page,
+                 actions=[{"type": "key", "id": "keyboard", "actions": actions}])
 
     def _find(self, **locator):
         return self.ask("browsingContext.locateNodes", context=self.page, locator=locator)["nodes"]
 
     def choose_file(self, path, selector):
         [element] = self._find(type="css", value=selector)
-        self.ask("input.setFiles", context=self.page, element={"sharedId": element["sharedId"]}, files=[str(path)])
+        self.ask("input.setFiles", context=self.page, element={"sharedId": element["sharedId"]},
+                 files=[str(path)])
 
     def drop(self, path, selector):
-        """Drops a file on an element. The file is one of the disk, the events are made in the page, since BiDi has no command that drops."""
-        self.run("document.body.append(Object.assign(document.createElement('input'), { type: 'file', id: 'dropped' }))")
+        """Drops a file on an element. The file is one of the disk, the events are made in the page,
+        since BiDi has no command that drops."""
+        self.run("""document.body.append(
+            Object.assign(document.createElement("input"), { type: "file", id: "dropped" }))""")
         self.choose_file(path, "#dropped")
         self.run(DROP % tuple(self._middle_of(selector)))
 
     def save_to(self, folder):
-        self.ask("browser.setDownloadBehavior", downloadBehavior={"type": "allowed", "destinationFolder": folder})
+        self.ask("browser.setDownloadBehavior",
+                 downloadBehavior={"type": "allowed", "destinationFolder": folder})
 
     def count_named(self, role, name):
         return len(self._find(type="accessibility", value={"role": role, "name": name}))
 
     def _complaints(self):
-        return [it["params"]["text"] for it in self.events if it["method"] == "log.entryAdded" and it["params"]["level"] in ("error", "warn")]
+        return [it["params"]["text"] for it in self.events if it["method"] == "log.entryAdded"
+                and it["params"]["level"] in ("error", "warn")]
 
     def _screenshot(self):
-        return self.ask("browsingContext.captureScreenshot", context=self.page, origin="document")["data"]
+        return self.ask("browsingContext.captureScreenshot", context=self.page,
+                        origin="document")["data"]
 
     def close(self):
         super().close()
@@ -325,7 +362,8 @@ class Firefox(Browser):
 
 
 def _value(told):
-    """The value that BiDi tells of: a list as that of the values told of in it, an object as its pairs."""
+    """The value that BiDi tells of: a list as that of the values told of in it, an object as its
+    pairs."""
     value = told.get("value")
     if told["type"] == "array":
         return [_value(it) for it in value]

@@ -1,7 +1,8 @@
-"""line_module.py LINE: tests the WebAssembly module of the static library in a browser without a window: it asks its host for nothing, and gives
-what the static library gives.
+"""line_module.py LINE: tests the WebAssembly module of the static library in a browser without a
+window: it asks its host for nothing, and gives what the static library gives.
 
-LINE is what tests/line.c is compiled to. The variable BROWSER names the browser, as browser.py has it.
+LINE is what tests/line.c is compiled to. The variable BROWSER names the browser, as browser.py has
+it.
 """
 import base64
 import json
@@ -19,7 +20,8 @@ import pages  # noqa: E402
 
 MODULE = pages.OUT / "matbench_line.wasm"
 
-#: Makes calls of the module, each by an instance of its own: texts are a line, a description, a certificate and a witness.
+#: Makes calls of the module, each by an instance of its own: texts are a line, a description, a
+#: certificate and a witness.
 RUN_ALL = """(async (packed, calls) => {
   const module = await WebAssembly.compile(Uint8Array.from(atob(packed), (it) => it.charCodeAt(0)));
   const run = (texts, room) => {
@@ -38,7 +40,8 @@ RUN_ALL = """(async (packed, calls) => {
     const text = (at, size) => new TextDecoder().decode(view(at, Number(size)));
     return [view(ended, 1)[0], text(output, written), text(note, noted)];
   };
-  return [WebAssembly.Module.imports(module).map((it) => it.name), calls.map(([texts, room]) => run(texts, room))];
+  const asked = WebAssembly.Module.imports(module).map((it) => it.name);
+  return [asked, calls.map(([texts, room]) => run(texts, room))];
 })(%s, %s)"""
 
 
@@ -47,7 +50,8 @@ def calls():
     for path in sorted((TOP / "examples").glob("*.txt")):
         text = path.read_text()
         form = text.split("\n")[1].split(" ")[0] if text.startswith("matroids ") else ""
-        command = {"pair": "intersect", "graph": "trees 1", "rooted": "cuts", "coloured": "rainbow", "table": "assign"}.get(form)
+        command = {"pair": "intersect", "graph": "trees 1", "rooted": "cuts", "coloured": "rainbow",
+                   "table": "assign"}.get(form)
         for words in [f"{command} f"] if command else ["show f", "union f"]:
             yield words, [text], 1 << 20
             yield words, [text], 10
@@ -63,7 +67,8 @@ def by_library(caller, words, texts, room):
         for name, text in zip("fcw", texts):
             pathlib.Path(folder, name).write_text(text)
         given = [f"{name}={name}" for name, _ in zip("fcw", texts)]
-        ended = subprocess.run([caller, "--room", str(room), words, *given], cwd=folder, capture_output=True, check=False)
+        ended = subprocess.run([caller, "--room", str(room), words, *given], cwd=folder,
+                               capture_output=True, check=False)
     return [ended.returncode, ended.stdout.decode(), ended.stderr.decode()]
 
 
@@ -84,7 +89,8 @@ def main():
         wanted = by_library(caller, words, texts, room)
         if answer != wanted:
             wrong += 1
-            print(f"line_module.py: {words}, room {room}: the library gives {str(wanted)[:300]}, the module {str(answer)[:300]}")
+            print(f"line_module.py: {words}, room {room}: the library gives {str(wanted)[:300]}, "
+                  f"the module {str(answer)[:300]}")
     print(f"line_module.py: in {name} {len(given)} calls compared, {wrong} wrong")
     return 1 if wrong else 0
 

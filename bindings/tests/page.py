@@ -1,8 +1,6 @@
-"""Tests of the page in a browser without a window: what it says, shows and takes. That its answers are the program's, answers.py tests.
-
-The variable BROWSER names the browser, as browser.py has it. The pictures that it makes lie in bindings/out/pictures/, to be looked at.
+"""Tests of the page in a browser without a window: what it says, shows and takes. That its answers
+are the program's, answers.py tests.
 """
-import base64
 import json
 import os
 import pathlib
@@ -13,142 +11,44 @@ import sys
 import tempfile
 import time
 import unittest
-import zlib
 
-HERE = pathlib.Path(__file__).resolve().parent
-TOP = HERE.parent.parent
-sys.path.insert(0, str(HERE.parent))
+from opened_page import HERE, PEOPLE, TOP, Page, fragment_of, long_problem
+from page_typing import Typing  # noqa: F401 (its tests run here too)
 
-import browser as browsers  # noqa: E402
-import matbench  # noqa: E402
-import pages  # noqa: E402
+import matbench
+import pages
 
-PICTURES = pages.OUT / "pictures"
-PEOPLE = (TOP / "examples" / "people.txt").read_text()
 FORMATS = (TOP / "docs" / "FORMATS.md").read_text()
+#: What is said of the answer to people.txt.
+RESULT = "BEST: 4 elements, weight 25. LARGEST: 5 elements, weight 23."
 #: A problem whose names have what markup is made of.
-MARKUP = "\n".join(["matroids 2", "rooted 3 3", 'elements a&b <script>x</script> "q"', "vertices A&B <img> &lt;", "root A&B", "arc A&B <img> 3",
+MARKUP = "\n".join(["matroids 2", "rooted 3 3", 'elements a&b <script>x</script> "q"',
+                    "vertices A&B <img> &lt;", "root A&B", "arc A&B <img> 3",
                     "arc <img> &lt; 2", "arc A&B &lt; 7", "end", ""])
 
-#: Asks another server for something: the directive of the page's policy that does not let it, or null where none has said so.
+#: Asks another server for something: the directive of the page's policy that does not let it, or
+#: null where none has said so.
 SEND = """new Promise((tell) => {
-  document.addEventListener("securitypolicyviolation", (event) => tell(event.effectiveDirective), { once: true });
+  const told = (event) => tell(event.effectiveDirective);
+  document.addEventListener("securitypolicyviolation", told, { once: true });
   const late = () => setTimeout(() => tell(null), 5000);
   fetch("https://example.org/").then(late, late);
 })"""
 
 
-def long_problem(unions=64):
-    """A problem that takes ten seconds or more: a union of 64 unions of 64 uniform matroids, against a partition. With fewer unions it takes
-    less."""
-    n = 500
-    unions = [f"union {unions}", *(line for _ in range(unions) for line in ("union 64", *["uniform 1"] * 64))]
-    classes = ("class 1 " + " ".join(str(e) for e in range(first, n, 125)) for first in range(125))
-    weights = "weights " + " ".join(str((7919 * e) % 1000) for e in range(n))
-    return "\n".join(["matroids 1", f"pair {n}", weights, *unions, "partition 125", *classes, "end", ""])
-
-
 def said_in_formats(note):
     """What docs/FORMATS.md says of a note that has a row of its own."""
-    row, = [line for line in FORMATS.splitlines() if line.startswith("|") and f"| `{note}` |" in line]
+    row, = [line for line in FORMATS.splitlines() if line.startswith("|")
+            and f"| `{note}` |" in line]
     return row.rstrip("| ").rsplit("| ", 1)[1]
 
 
-def fragment_of(command, text):
-    """The fragment of a link that holds a problem."""
-    squeeze = zlib.compressobj(9, wbits=-zlib.MAX_WBITS)
-    packed = squeeze.compress(text.encode()) + squeeze.flush()
-    return f"#{command},2,{base64.urlsafe_b64encode(packed).decode().rstrip('=')}"
-
-
 def uniform_pair(n):
-    """A problem whose certificate has all weights for each number of elements: for 500 it has more than a MB."""
+    """A problem whose certificate has all weights for each number of elements: for 500 it has more
+    than a MB."""
     weights = "weights " + " ".join(str(1000 + e) for e in range(n))
-    return "\n".join(["matroids 1", f"pair {n}", weights, f"uniform {n}", f"uniform {n}", "end", ""])
-
-
-class Page(unittest.TestCase):
-    """The page as files from a server."""
-
-    @classmethod
-    def setUpClass(cls):
-        cls.browser = cls.enterClassContext(pages.opened())
-        cls.address = cls.enterClassContext(pages.served())
-        cls.pictures = PICTURES / cls.browser.name
-        cls.pictures.mkdir(parents=True, exist_ok=True)
-
-    def setUp(self):
-        self.browser.resize(1100, 900)
-        self.open(self.address)
-        self.begin_anew()
-
-    def tearDown(self):
-        self.assertEqual(self.browser.complaints(), [])
-
-    def open(self, address):
-        self.browser.open(address)
-        self.browser.wait("document.querySelector('#command').value")
-
-    def begin_anew(self):
-        """Opens the page once more, as in a new tab, where nothing is kept."""
-        self.browser.run("Storage.prototype.setItem = () => {}; sessionStorage.clear()")
-        self.open(self.browser.run("location.href.split('#')[0]"))
-
-    def text(self, selector):
-        return pages.text(self.browser, selector)
-
-    def write(self, selector, text):
-        pages.write(self.browser, selector, text)
-
-    def solve(self):
-        pages.click_and_wait(self.browser, "#solve")
-
-    def choose_example(self, name):
-        """Chooses the example of a file."""
-        found = f"[...document.querySelectorAll('#example option')].find((it) => it.textContent.startsWith('{name}:'))"
-        pages.choose(self.browser, "#example", self.browser.run(f"{found}.value"))
-
-    def begin_long_run(self):
-        """Begins a run that takes ten seconds or more, and waits until it is under way."""
-        self.write("#description", long_problem())
-        self.browser.run("document.querySelector('#solve').click()")
-        self.browser.wait("document.querySelector('#time').textContent")
-
-    def load_again(self):
-        """Loads the page again."""
-        self.browser.run("window.isOld = true")
-        self.browser.run("void location.reload()")
-        self.browser.wait("!window.isOld && document.querySelector('#command')?.value")
-
-    def is_at(self, selector):
-        """Whether the focus is at an element."""
-        return self.browser.run(f"document.activeElement === document.querySelector('{selector}')")
-
-    def is_off(self, selector):
-        """Whether a button that keeps the focus does nothing now."""
-        return self.browser.run(f"document.querySelector('{selector}').ariaDisabled === 'true'")
-
-    def is_shown(self, *parts):
-        """Whether these parts of the page are shown, and of the others that show an answer none."""
-        shown = self.browser.run("['nothing', 'words', 'picture', 'names'].filter((it) => document.getElementById(it).checkVisibility())")
-        return shown == list(parts)
-
-    def wait_for_image(self):
-        self.browser.wait("(({complete, naturalWidth}) => complete && naturalWidth > 100)(document.querySelector('#picture img'))")
-
-    def saved(self, button, name):
-        """The bytes of the file of this name that a button saves."""
-        with tempfile.TemporaryDirectory() as folder:
-            self.browser.save_to(folder)
-            self.browser.run(f"document.querySelector('{button}').click()")
-            path, end = pathlib.Path(folder, name), time.monotonic() + browsers.LONGEST
-            # A browser holds the name by an empty file until all of it is written.
-            while not (path.exists() and path.stat().st_size) and time.monotonic() < end:
-                time.sleep(0.05)
-            return path.read_bytes()
-
-    def picture(self, name):
-        self.browser.picture(self.pictures / f"{name}.png")
+    return "\n".join(["matroids 1", f"pair {n}", weights, f"uniform {n}", f"uniform {n}", "end",
+                      ""])
 
 
 class Use(Page):
@@ -161,26 +61,27 @@ class Use(Page):
         self.assertRegex(pages.state(self.browser), r"^Done in [\d.]+ m?s\.$")
         self.assertTrue(self.is_shown("words", "picture"))
         self.assertIn("BEST: 4 elements, weight 25.", self.text("#words"))
-        self.assertEqual(self.browser.run("document.querySelector('#picture img').alt"),
-                         "The answer as a picture. BEST: 4 elements, weight 25. LARGEST: 5 elements, weight 23.")
+        self.assertEqual(self.of("#picture img", "it.alt"),
+                         f"The answer as a picture. {RESULT}")
         self.wait_for_image()
         self.picture("solved")
         self.browser.resize(1900, 1000)
         self.picture("solved_wide")
 
     def test_told_lines_that_go_on_are_one_paragraph(self):
-        paragraphs = "[...document.querySelectorAll('.told p')].map((it) => it.textContent)"
         self.solve()
-        self.assertIn("  Each weight is split into two shares, one for each rule. All of it is for rule 1, but of\n    these:",
-                      self.browser.run(paragraphs))
+        self.assertIn("  Each weight is split into two shares, one for each rule. "
+                      "All of it is for rule 1, but of\n    these:",
+                      self.of_all(".told p", "it.textContent"))
         self.write("#description", (TOP / "examples" / "supply.txt").read_text())
         self.solve()
-        self.assertIn("    e2: 2 = -2 + 4", self.browser.run(paragraphs))
+        self.assertIn("    e2: 2 = -2 + 4", self.of_all(".told p", "it.textContent"))
 
     def test_a_right_certificate_is_told_and_drawn(self):
         self.write("#answer", matbench.intersect(PEOPLE).certificate)
         pages.click_and_wait(self.browser, "#check")
-        self.assertRegex(pages.state(self.browser), r"^yes: the answer is right\. Judged in [\d.]+ m?s\.$")
+        self.assertRegex(pages.state(self.browser),
+                         r"^yes: the answer is right\. Judged in [\d.]+ m?s\.$")
         self.assertTrue(self.is_shown("words", "picture"))
         self.wait_for_image()
 
@@ -214,42 +115,48 @@ class Use(Page):
         self.assertIn("a&b: A&B to <img>, cost 3", self.text("#words"))
         drawn = self.saved("#save-picture", "arborescence.svg").decode()
         self.assertEqual(drawn, matbench.arborescence(MARKUP).picture())
-        self.assertEqual(self.browser.run("document.querySelectorAll('script, img').length"), elements)
+        self.assertEqual(self.browser.run("document.querySelectorAll('script, img').length"),
+                         elements)
         pages.choose(self.browser, "#command", "cuts")
         self.solve()
         self.assertIn("a&b <script>x</script>", self.text("#names tbody"))
-        self.assertEqual(self.browser.run("document.querySelectorAll('script, img').length"), elements)
+        self.assertEqual(self.browser.run("document.querySelectorAll('script, img').length"),
+                         elements)
 
     def test_a_picture_runs_no_script_and_loads_nothing(self):
-        picture = f"""<svg xmlns="http://www.w3.org/2000/svg" width="200" height="100" onload="parent.ran = top.ran = window.ran = 1">
-            <script>parent.ran = top.ran = window.ran = 1</script><image href="{self.address}style.css?of=picture" width="9" height="9"/></svg>"""
+        run = "parent.ran = top.ran = window.ran = 1"
+        size = 'xmlns="http://www.w3.org/2000/svg" width="200" height="100"'
+        picture = f"""<svg {size} onload="{run}"><script>{run}</script>
+            <image href="{self.address}style.css?of=picture" width="9" height="9"/></svg>"""
         self.solve()
         self.browser.run(f"""import("./answer.mjs").then(({{ AnswerParts }}) => {{
-            const [nothing, words, picture, names] = ["nothing", "words", "picture", "names"].map((it) => document.getElementById(it));
-            new AnswerParts({{ nothing, words, picture, names }}).draw({json.dumps(picture)});
+            const names = ["nothing", "words", "picture", "names"];
+            const parts = names.map((it) => [it, document.getElementById(it)]);
+            new AnswerParts(Object.fromEntries(parts)).draw({json.dumps(picture)});
         }})""")
-        self.browser.wait("document.querySelector('#picture img').naturalWidth === 200")
+        self.wait_for("#picture img", "it.naturalWidth === 200")
         time.sleep(0.2)
         self.assertTrue(self.browser.run("window.ran === undefined"))
         self.assertIn("/style.css", pages.ASKED)
         self.assertNotIn("/style.css?of=picture", pages.ASKED)
 
     def test_there_is_an_example_of_each_form_with_its_command(self):
-        found = self.browser.run("[...document.querySelectorAll('#example optgroup')].map((it) => it.label)")
+        found = self.of_all("#example optgroup", "it.label")
         self.assertEqual(found, ["pair", "list", "graph", "rooted", "coloured", "table"])
-        titles = self.browser.run("[...document.querySelectorAll('#example option')].map((it) => it.textContent)")
+        titles = self.of_all("#example option", "it.textContent")
         self.assertIn("ward_four.txt: who works when", titles)
         self.assertIn("cheap_links.txt: costs instead of gains, and which rung to read", titles)
         self.choose_example("frame.txt")
         self.assertEqual((self.text("#command"), self.text("#count")), ("trees", "6"))
-        self.assertTrue(self.browser.run("document.querySelector('#count').checkVisibility()"))
+        self.assertTrue(self.of("#count", "it.checkVisibility()"))
 
     def test_the_commands_are_those_of_the_form(self):
-        offered = "[...document.querySelectorAll('#command option')].map((it) => it.value)"
-        for line, wanted in (("table 1 1 0", ["assign"]), ("list 0 2", ["union"]), ("list 0 1", ["best", "union", "pack", "cover"]),
+        for line, wanted in (("table 1 1 0", ["assign"]), ("list 0 2", ["union"]),
+                             ("list 0 1", ["best", "union", "pack", "cover"]),
                              ("rooted 1 0 0", ["arborescence", "disjoint", "cuts"])):
             self.write("#description", f"matroids 1\n{line}\nend\n")
-            self.assertEqual(self.browser.run(offered), [*wanted, "show", "convert"])
+            offered = self.of_all("#command option", "it.value")
+            self.assertEqual(offered, [*wanted, "show", "convert"])
 
     def test_the_sets_of_cuts_have_names(self):
         self.write("#description", (TOP / "examples" / "towns.txt").read_text())
@@ -260,42 +167,45 @@ class Use(Page):
         self.assertRegex(self.text("#names"), "cut[0-9]+.*(Mill|Abbey|Quarry)")
 
     def test_each_kind_of_limit_is_told(self):
-        rows = self.browser.run("[...document.querySelectorAll('#limits tbody tr')].map((it) => it.textContent)")
+        rows = self.of_all("#limits tbody tr", "it.textContent")
         self.assertIn("uniform CAPit has at most CAP elements", rows)
         self.assertIn("dual, then a matroid", " ".join(rows))
-        self.browser.run("document.querySelector('details').open = true")
+        self.of("details", "it.open = true")
         self.picture("limits")
 
     def test_a_fault_is_marked_with_its_meaning(self):
         self.write("#description", PEOPLE.replace("class 1 7 8", "class 1 7 9"))
         self.solve()
-        self.assertRegex(self.text("#description-fault"), "^Line 8, NumberRange: the number is out of its range: .* Go to line 8$")
-        self.assertEqual(self.browser.run("document.querySelector('#description').getAttribute('aria-invalid')"), "true")
-        mark = self.browser.run("(({top, bottom}) => [top, bottom])(document.querySelector('.mark').getBoundingClientRect())")
-        area = self.browser.run("document.querySelector('#description').getBoundingClientRect().top")
-        line = self.browser.run("parseFloat(getComputedStyle(document.querySelector('#description')).lineHeight)")
-        self.assertAlmostEqual(mark[0], area + 8 + 7 * line, delta=1.5)
-        self.assertAlmostEqual(mark[1] - mark[0], line, delta=0.5)
+        self.assertRegex(self.text("#description-fault"),
+                         "^Line 8, NumberRange: the number is out of its range: .* Go to line 8$")
+        self.assertEqual(self.of("#description", "it.getAttribute('aria-invalid')"), "true")
+        top, bottom = self.place_of(".mark")
+        area, _ = self.place_of("#description")
+        line = self.of("#description", "parseFloat(getComputedStyle(it).lineHeight)")
+        self.assertAlmostEqual(top, area + 8 + 7 * line, delta=1.5)
+        self.assertAlmostEqual(bottom - top, line, delta=0.5)
         self.picture("fault")
-        self.browser.run("document.querySelector('#description-fault button').click()")
-        chosen = "(({selectionStart, selectionEnd, value}) => value.slice(selectionStart, selectionEnd))(document.activeElement)"
-        self.assertEqual(self.browser.run(chosen), "class 1 7 9")
+        self.of("#description-fault button", "it.click()")
+        self.assertTrue(self.is_at("#description"))
+        chosen = self.of("#description", "it.value.slice(it.selectionStart, it.selectionEnd)")
+        self.assertEqual(chosen, "class 1 7 9")
         self.write("#description", PEOPLE)
         self.assertEqual(self.text("#description-fault"), "")
-        self.assertTrue(self.browser.run("document.querySelector('.mark').hidden"))
+        self.assertTrue(self.of(".mark", "it.hidden"))
 
     def test_a_fault_far_below_is_scrolled_to(self):
         lines = ["matroids 1", "graph 500 400", *(f"edge {e} {e}" for e in range(400)), "end", ""]
         lines[300] = "edge 1"
         self.write("#description", "\n".join(lines))
         self.solve()
-        boxes = "...['#description', '.mark'].map((it) => document.querySelector(it).getBoundingClientRect())"
-        self.assertTrue(self.browser.run(f"((area, mark) => mark.top >= area.top && mark.bottom <= area.bottom)({boxes})"))
+        (top, bottom), (mark_top, mark_bottom) = map(self.place_of, ("#description", ".mark"))
+        self.assertTrue(top <= mark_top and mark_bottom <= bottom)
 
     def test_a_fault_of_an_answer_is_marked_there(self):
         self.write("#answer", "certificate 1\nanswer intersect 9 5\nrung 0 00\n")
         pages.click_and_wait(self.browser, "#check")
-        self.assertIn("Line 3, NumberSpelling: a number or a weight is needed", self.text("#answer-fault"))
+        self.assertIn("Line 3, NumberSpelling: a number or a weight is needed",
+                      self.text("#answer-fault"))
         self.assertEqual(self.text("#description-fault"), "")
 
     def test_a_wrong_answer_is_told_with_its_reason(self):
@@ -329,7 +239,7 @@ class Use(Page):
 
     def test_a_long_run_is_timed_and_can_be_stopped(self):
         self.begin_long_run()
-        self.browser.wait("/^[1-9][\\d.]* m?s$/.test(document.querySelector('#time').textContent)")
+        self.wait_for("#time", r"/^[1-9][\d.]* m?s$/.test(it.textContent)")
         self.assertEqual(pages.state(self.browser), "Running")
         self.assertTrue(self.is_off("#solve") and self.is_off("#check"))
         self.picture("running")
@@ -342,8 +252,8 @@ class Use(Page):
     def test_a_page_that_is_loaded_again_while_it_runs_begins_anew(self):
         self.begin_long_run()
         self.load_again()
-        disabled = "[...document.querySelectorAll('button, select')].filter((it) => it.disabled).map((it) => it.id)"
-        self.assertEqual(self.browser.run(disabled), ["stop"])
+        controls = self.of_all("button, select", "[it.id, it.disabled]")
+        self.assertEqual([name for name, is_disabled in controls if is_disabled], ["stop"])
         self.assertFalse(self.is_off("#solve") or self.is_off("#check"))
         self.write("#description", PEOPLE)
         self.solve()
@@ -351,43 +261,45 @@ class Use(Page):
 
     def test_telling_is_timed_and_can_be_stopped(self):
         self.write("#description", long_problem(16))
-        self.browser.run("document.querySelector('#solve').click()")
-        self.browser.wait("/^Done in .* Telling it$/.test(document.querySelector('#state').textContent)")
-        self.browser.wait("/^[1-9][\\d.]* m?s$/.test(document.querySelector('#time').textContent)")
+        self.of("#solve", "it.click()")
+        self.wait_for("#state", r"/^Done in .* Telling it$/.test(it.textContent)")
+        self.wait_for("#time", r"/^[1-9][\d.]* m?s$/.test(it.textContent)")
         pages.click_and_wait(self.browser, "#stop")
-        self.assertRegex(pages.state(self.browser), r"^Done in [\d.]+ m?s\. Stopped after [\d.]+ m?s\.$")
+        self.assertRegex(pages.state(self.browser),
+                         r"^Done in [\d.]+ m?s\. Stopped after [\d.]+ m?s\.$")
         self.assertTrue(self.text("#answer").startswith("certificate 1\nanswer intersect 500 "))
         self.assertTrue(self.is_shown("nothing"))
 
     def test_files_are_opened(self):
         self.browser.choose_file(TOP / "examples" / "posts.txt", "#open-description")
-        self.browser.wait("document.querySelector('#command').value === 'assign'")
+        self.wait_for("#command", "it.value === 'assign'")
         self.browser.choose_file(TOP / "examples" / "people_wrong.answer", "#open-answer")
-        self.browser.wait("document.querySelector('#answer').value.startsWith('certificate 1')")
+        self.wait_for("#answer", "it.value.startsWith('certificate 1')")
 
     def test_files_are_taken_by_drop(self):
         self.browser.drop(TOP / "examples" / "posts.txt", "#description")
-        self.browser.wait("document.querySelector('#command').value === 'assign'")
+        self.wait_for("#command", "it.value === 'assign'")
         self.browser.drop(TOP / "README.md", "h1")
         self.assertEqual(self.text("#command"), "assign")
         self.browser.drop(TOP / "examples" / "people_wrong.answer", "#answer")
-        self.browser.wait("document.querySelector('#answer').value.startsWith('certificate 1')")
+        self.wait_for("#answer", "it.value.startsWith('certificate 1')")
         with tempfile.NamedTemporaryFile(suffix=".txt") as file:
             file.write(b"x" * 4_194_305)
             file.flush()
             self.browser.drop(file.name, "#description")
-            self.browser.wait("document.querySelector('#description-fault').textContent.endsWith('has more than 4,194,304 bytes.')")
+            said = "has more than 4,194,304 bytes."
+            self.wait_for("#description-fault", f"it.textContent.endsWith('{said}')")
 
     def test_a_link_holds_the_problem_in_its_fragment(self):
         frame = (TOP / "examples" / "frame.txt").read_text()
         self.write("#description", frame)
-        self.browser.run("document.querySelector('#count').value = 6")
-        self.browser.run("document.querySelector('#link').click()")
+        self.of("#count", "it.value = 6")
+        self.of("#link", "it.click()")
         self.browser.wait("location.hash.length > 1")
         link = self.browser.run("location.href")
         self.assertTrue(link.startswith(f"{self.address}#trees,6,"))
         self.open(link)
-        self.browser.wait("document.querySelector('#command').value === 'trees'")
+        self.wait_for("#command", "it.value === 'trees'")
         self.assertEqual((self.text("#description"), self.text("#count")), (frame, "6"))
         for fragment in ("#what,ever,!", "#trees,1,AAAA"):
             # The page reads a fragment after the event, by streams.
@@ -412,15 +324,16 @@ class Use(Page):
         self.assertEqual(typed, f"{PEOPLE}typed")
 
     def another_problem_comes(self):
-        """Ways in which another problem comes into the page, each with its text, after it has come."""
+        """Ways in which another problem comes into the page, each with its text, after it has
+        come."""
         posts = (TOP / "examples" / "posts.txt").read_text()
         self.choose_example("posts.txt")
         yield "an example", posts
         self.browser.choose_file(TOP / "examples" / "posts.txt", "#open-description")
-        self.browser.wait("document.querySelector('#command').value === 'assign'")
+        self.wait_for("#command", "it.value === 'assign'")
         yield "a file", posts
         self.browser.run(f"location.hash = {json.dumps(fragment_of('assign', posts))}")
-        self.browser.wait("document.querySelector('#command').value === 'assign'")
+        self.wait_for("#command", "it.value === 'assign'")
         yield "a link", posts
 
     def test_what_was_written_is_brought_back(self):
@@ -430,27 +343,30 @@ class Use(Page):
             self.write("#description", written)
             way, text = next(ways)
             self.assertEqual(self.text("#description"), text, way)
-            self.browser.run("document.querySelector('#description-back').click()")
-            self.assertEqual((self.text("#description"), self.text("#command")), (written, "best"), way)
+            self.of("#description-back", "it.click()")
+            self.assertEqual((self.text("#description"), self.text("#command")), (written, "best"),
+                             way)
             self.assertTrue(self.is_at("#description"))
-            self.assertFalse(self.browser.run("document.querySelector('#description-back').checkVisibility()"), way)
+            self.assertFalse(self.of("#description-back", "it.checkVisibility()"), way)
         self.choose_example("posts.txt")
         self.choose_example("crews.txt")
-        self.browser.run("document.querySelector('#description-back').click()")
+        self.of("#description-back", "it.click()")
         self.assertEqual(self.text("#description"), written)
 
     def test_an_example_that_was_not_changed_is_not_brought_back(self):
         self.choose_example("posts.txt")
         self.choose_example("crews.txt")
-        self.assertFalse(self.browser.run("document.querySelector('#description-back').checkVisibility()"))
+        self.assertFalse(self.of("#description-back", "it.checkVisibility()"))
 
     def test_undo_puts_no_two_descriptions_together(self):
         self.browser.run("""(() => {
             document.querySelector("#description").select();
-            for (const text of ["a", "b", "matroids 1\\nlist"]) document.execCommand("insertText", false, text);
+            for (const text of ["a", "b", "matroids 1\\nlist"]) {
+                document.execCommand("insertText", false, text);
+            }
         })()""")
         self.choose_example("posts.txt")
-        self.browser.run("(document.querySelector('#description').focus(), document.execCommand('undo'))")
+        self.of("#description", "(it.focus(), document.execCommand('undo'))")
         self.assertEqual(self.text("#description"), (TOP / "examples" / "posts.txt").read_text())
 
     def test_another_problem_ends_a_run(self):
@@ -458,8 +374,9 @@ class Use(Page):
         for _ in range(3):
             self.begin_long_run()
             way, text = next(ways)
-            self.browser.wait("document.querySelector('#stop').disabled")
-            self.assertEqual(pages.state(self.browser), "Stopped, since the text is another one now.", way)
+            self.wait_for("#stop", "it.disabled")
+            self.assertEqual(pages.state(self.browser),
+                             "Stopped, since the text is another one now.", way)
             self.assertEqual((self.text("#description"), self.text("#answer")), (text, ""), way)
             self.assertTrue(self.is_shown("nothing"), way)
 
@@ -480,14 +397,14 @@ class Use(Page):
         self.assertEqual(self.text("#answer"), wrong)
         self.solve()
         self.assertRegex(pages.state(self.browser), "^Done in")
-        self.browser.run("document.querySelector('#answer-back').click()")
+        self.of("#answer-back", "it.click()")
         self.assertEqual(self.text("#answer"), wrong)
 
     def test_a_text_is_kept_when_the_page_is_loaded_again(self):
         frame = (TOP / "examples" / "frame.txt").read_text().replace("end\n", "")
         self.write("#description", frame)
         pages.choose(self.browser, "#command", "trees")
-        self.browser.run("document.querySelector('#count').value = 7")
+        self.of("#count", "it.value = 7")
         self.write("#answer", "certificate 1\n")
         self.load_again()
         found = [self.text(f"#{it}") for it in ("description", "command", "count", "answer")]
@@ -496,12 +413,12 @@ class Use(Page):
     def test_what_is_kept_gives_way_to_another_link(self):
         posts = (TOP / "examples" / "posts.txt").read_text()
         self.open(self.address + fragment_of("assign", posts))
-        self.browser.wait("document.querySelector('#command').value === 'assign'")
+        self.wait_for("#command", "it.value === 'assign'")
         self.write("#description", posts + "typed")
         self.load_again()
         self.assertEqual(self.text("#description"), posts + "typed")
         self.open(self.address + fragment_of("intersect", PEOPLE))
-        self.browser.wait("document.querySelector('#command').value === 'intersect'")
+        self.wait_for("#command", "it.value === 'intersect'")
         self.assertEqual(self.text("#description"), PEOPLE)
 
     def test_of_a_long_text_the_front_is_shown(self):
@@ -509,16 +426,27 @@ class Use(Page):
         fragment = fragment_of("intersect", text)
         self.assertLess(len(fragment), 1500)
         self.open(self.address + fragment)
-        self.browser.wait("document.querySelector('#description-part').textContent")
-        self.assertTrue(self.text("#description-part").startswith("The first 10,000 of 1,048,576 lines are shown"))
+        self.wait_for("#description-part", "it.textContent")
+        told = self.text("#description-part")
+        self.assertTrue(told.startswith("The first 10,000 of 1,048,576 lines are shown"))
         self.assertEqual(self.text("#description"), "\n" * 10_000)
         self.assertEqual(self.saved("#save-description", "description.txt").decode(), text)
         self.picture("long")
-        self.browser.run("document.querySelector('#description-part button').click()")
+        self.of("#description-part button", "it.click()")
         self.assertEqual((self.text("#description"), self.text("#description-part")), ("", ""))
         self.write("#description", PEOPLE)
         self.solve()
         self.assertRegex(pages.state(self.browser), "^Done in")
+
+    def test_of_a_long_line_the_front_is_shown(self):
+        with tempfile.NamedTemporaryFile("w", suffix=".txt") as file:
+            file.write("x" * 1_000_001)
+            file.flush()
+            self.browser.choose_file(file.name, "#open-description")
+            self.wait_for("#description-part", "it.textContent")
+        told = self.text("#description-part")
+        self.assertTrue(told.startswith("The first 1,000,000 of 1,000,001 characters are shown"))
+        self.assertEqual(self.text("#description"), "x" * 1_000_000)
 
     def test_a_long_text_is_pasted(self):
         text = "matroids 1\n" * 20_000
@@ -527,7 +455,8 @@ class Use(Page):
             clipboardData.setData("text/plain", {json.dumps(text)});
             const description = document.querySelector("#description");
             description.setSelectionRange(0, 0);
-            description.dispatchEvent(Object.assign(new Event("paste", {{ cancelable: true }}), {{ clipboardData }}));
+            const event = new Event("paste", {{ cancelable: true }});
+            description.dispatchEvent(Object.assign(event, {{ clipboardData }}));
         }})()""")
         self.assertEqual(self.text("#description"), text[:110_000])
         self.assertEqual(self.saved("#save-description", "description.txt").decode(), text + PEOPLE)
@@ -553,7 +482,7 @@ class Use(Page):
             file.write(text)
             file.flush()
             self.browser.choose_file(file.name, "#open-description")
-            self.browser.wait("document.querySelector('#description-part').textContent")
+            self.wait_for("#description-part", "it.textContent")
         self.solve()
         fault = self.text("#description-fault")
         self.assertRegex(fault, "^Line [0-9]+, ")
@@ -562,43 +491,48 @@ class Use(Page):
 
     def test_an_answer_and_its_picture_are_saved_as_they_are(self):
         self.solve()
-        self.assertEqual(self.saved("#save-answer", "intersect.answer").decode(), self.text("#answer"))
-        self.assertEqual(self.saved("#save-picture", "intersect.svg").decode(), matbench.intersect(PEOPLE).picture())
+        self.assertEqual(self.saved("#save-answer", "intersect.answer").decode(),
+                         self.text("#answer"))
+        self.assertEqual(self.saved("#save-picture", "intersect.svg").decode(),
+                         matbench.intersect(PEOPLE).picture())
 
     def test_the_keyboard_is_enough(self):
-        self.browser.run("document.querySelector('#description').focus()")
+        self.of("#description", "it.focus()")
         self.browser.press("Enter", control=True)
-        self.browser.wait("/^Done in [\\d.]+ m?s\\.$/.test(document.querySelector('#state').textContent)")
-        self.browser.run("document.querySelector('#example').focus()")
+        self.wait_for("#state", r"/^Done in [\d.]+ m?s\.$/.test(it.textContent)")
+        self.of("#example", "it.focus()")
         order = []
-        for _ in range(12):
+        for _ in range(13):
             self.browser.press("Tab")
-            order.append(self.browser.run("document.activeElement.id || document.activeElement.parentElement.id"))
-        self.assertEqual(order, ["command", "description", "solve", "open-description", "save-description", "link", "picture", "save-picture",
+            order.append(self.browser.run(
+                "((it) => it.id || it.parentElement.id)(document.activeElement)"))
+        self.assertEqual(order, ["command", "description", "solve", "live", "open-description",
+                                 "save-description", "link", "picture", "save-picture",
                                  "answer", "check", "open-answer", "save-answer"])
         self.begin_long_run()
         self.browser.press("Escape")
-        self.browser.wait("document.querySelector('#state').textContent.startsWith('Stopped')")
+        self.wait_for("#state", "it.textContent.startsWith('Stopped')")
 
     def use_focused(self, selector):
-        """Clicks a button that has the focus, as the keyboard does. A key presses no button in a Firefox without a window."""
-        self.browser.run(f"document.querySelector('{selector}').focus()")
+        """Clicks a button that has the focus, as the keyboard does. A key presses no button in a
+        Firefox without a window."""
+        self.of(selector, "it.focus()")
         self.browser.run("document.activeElement.click()")
 
     def test_the_keyboard_keeps_its_place(self):
         for button in ("#solve", "#check"):
             self.use_focused(button)
-            self.browser.wait("document.querySelector('#stop').disabled")
+            self.wait_for("#stop", "it.disabled")
             self.assertTrue(self.is_shown("words", "picture"))
             self.assertTrue(self.is_at(button))
         self.write("#description", long_problem())
         self.use_focused("#solve")
-        self.browser.wait("document.querySelector('#time').textContent")
+        self.wait_for("#time", "it.textContent")
         self.assertTrue(self.is_at("#solve"))
         self.use_focused("#solve")
         self.assertEqual(pages.state(self.browser), "Running")
         self.use_focused("#stop")
-        self.browser.wait("document.querySelector('#stop').disabled")
+        self.wait_for("#stop", "it.disabled")
         self.assertTrue(self.is_at("#solve"))
 
     def test_it_says_which_version_it_is(self):
@@ -608,11 +542,15 @@ class Use(Page):
 
     def test_everything_that_is_used_has_a_name_and_a_role(self):
         self.solve()
-        result = "BEST: 4 elements, weight 25. LARGEST: 5 elements, weight 23."
-        for role, name in (("combobox", "Example"), ("combobox", "Command"), ("textbox", "Description"), ("textbox", "Certificate"),
-                           ("button", "Solve"), ("button", "Check"), ("button", "Copy a link"), ("button", "Save the picture"),
-                           ("heading", "matbench"), ("heading", "Description"), ("heading", "In words"), ("heading", "Picture"),
-                           ("heading", "Certificate"), ("image", f"The answer as a picture. {result}")):
+        for role, name in (("combobox", "Example"), ("combobox", "Command"),
+                           ("textbox", "Description"), ("textbox", "Certificate"),
+                           ("button", "Solve"), ("checkbox", "Solve while I type"),
+                           ("button", "Check"), ("button", "Copy a link"),
+                           ("button", "Save the picture"),
+                           ("heading", "matbench"), ("heading", "Description"),
+                           ("heading", "In words"), ("heading", "Picture"),
+                           ("heading", "Certificate"),
+                           ("image", f"The answer as a picture. {RESULT}")):
             self.assertEqual(self.browser.count_named(role, name), 1, (role, name))
         for role in ("combobox", "textbox", "button", "spinbutton", "link"):
             self.assertEqual(self.browser.count_named(role, ""), 0, role)
@@ -626,7 +564,8 @@ class Use(Page):
         self.assertEqual(self.browser.run(ground), "rgb(23, 24, 26)")
         self.solve()
         self.wait_for_image()
-        self.assertEqual(self.browser.run("getComputedStyle(document.querySelector('#picture .picture')).backgroundColor"), "rgb(255, 255, 255)")
+        ground_of_picture = self.of("#picture .picture", "getComputedStyle(it).backgroundColor")
+        self.assertEqual(ground_of_picture, "rgb(255, 255, 255)")
         self.picture("solved_dark")
         self.write("#description", PEOPLE.replace("class 1 7 8", "class 1 7 9"))
         self.solve()
@@ -639,8 +578,8 @@ class Use(Page):
             self.write("#description", (TOP / "examples" / f"{name}.txt").read_text())
             self.solve()
             self.wait_for_image()
-            self.assertEqual(*self.browser.run("(({scrollWidth, clientWidth}) => [scrollWidth, clientWidth])(document.documentElement)"))
-            narrow, natural = self.browser.run("(({width, naturalWidth}) => [width, naturalWidth])(document.querySelector('#picture img'))")
+            self.assertEqual(*self.of("html", "[it.scrollWidth, it.clientWidth]"))
+            narrow, natural = self.of("#picture img", "[it.width, it.naturalWidth]")
             self.assertGreaterEqual(narrow, 2 / 3 * natural - 1)
             self.picture(f"phone_{name}")
 
@@ -650,7 +589,7 @@ class Use(Page):
         self.assertEqual([it for it in loaded if not it.startswith(self.address)], [])
         for address in (self.address, pages.ONE_FILE):
             self.open(address)
-            policy = self.browser.run("document.querySelector('meta[http-equiv]').content")
+            policy = self.of("meta[http-equiv]", "it.content")
             self.assertIn("default-src 'none'", policy)
             self.assertEqual(self.browser.run(SEND), "connect-src", address)
             self.browser.forget()
@@ -661,9 +600,9 @@ class BadUse(Page):
 
     def run_in_page(self, words, limits):
         """How a run within these limits ends, or what it fails with."""
-        script = f"""import("./run.mjs").then(({{ Run }}) => new Run({json.dumps(words)}, {{}}, {json.dumps(limits)}).ended)
-            .catch((it) => it.message)"""
-        return self.browser.run(script)
+        given = f"{json.dumps(words)}, {{}}, {json.dumps(limits)}"
+        return self.browser.run(f"""import("./run.mjs").then(({{ Run }}) => new Run({given}).ended)
+            .catch((it) => it.message)""")
 
     def test_a_text_that_is_too_long_is_refused(self):
         self.write("#description", "x" * 4_194_305)
@@ -674,7 +613,8 @@ class BadUse(Page):
     def test_no_memory_is_told(self):
         sample = ["sample", "pair", "500", "1"]
         ended = self.run_in_page(sample, {"memory": 46_000_000, "room": 24_000_000})
-        self.assertEqual((ended["status"], ended["note"], ended["output"]), (7, "refused: memory", ""))
+        self.assertEqual((ended["status"], ended["note"], ended["output"]),
+                         (7, "refused: memory", ""))
         self.assertEqual(self.run_in_page(sample, {"memory": 20_000_000}), "memory")
         self.assertEqual(self.run_in_page(sample, {})["status"], 0)
 
@@ -685,19 +625,21 @@ class BadUse(Page):
           const alone = [];
           for (const it of words) alone.push((await new Run(it, {}).ended).output);
           const at_once = await Promise.all(words.map((it) => new Run(it, {}).ended));
-          return at_once.every((it, place) => it.output === alone[place]) && new Set(alone).size === 8;
+          const areSame = at_once.every((it, place) => it.output === alone[place]);
+          return areSame && new Set(alone).size === 8;
         })()"""
         self.assertTrue(self.browser.run(script))
 
     def test_a_buffer_that_is_too_small_is_a_write_fault(self):
         ended = self.run_in_page(["sample", "pair", "2", "1"], {"room": 6})
-        self.assertEqual((ended["status"], ended["output"], ended["note"]), (6, "sample", "refused: write fault"))
+        self.assertEqual((ended["status"], ended["output"], ended["note"]),
+                         (6, "sample", "refused: write fault"))
 
     def test_a_module_that_is_not_there_is_told_of(self):
         with pages.served(missing="/matbench.wasm") as address:
             self.open(address)
-            self.browser.wait("document.querySelector('#unable').textContent")
-        self.assertTrue(self.browser.run("document.querySelector('#solve').disabled"))
+            self.wait_for("#unable", "it.textContent")
+        self.assertTrue(self.of("#solve", "it.disabled"))
         self.browser.forget()
 
 
@@ -708,6 +650,7 @@ class OneFile(Page):
         self.browser.resize(1100, 900)
         self.open(pages.ONE_FILE)
         self.begin_anew()
+        self.solve_while_typing(False)
 
     def test_it_is_small(self):
         self.assertLess(pages.PAGE.stat().st_size, 700_000)
@@ -717,8 +660,10 @@ class OneFile(Page):
             with tempfile.TemporaryDirectory() as folder:
                 shutil.copy(pages.OUT / "matbench.wasm", folder)
                 build = [sys.executable, HERE.parent / "web" / "build_page.py", TOP, folder]
-                subprocess.run(build, check=True, cwd=folder, env={**os.environ, "PYTHONHASHSEED": seed})
-                self.assertEqual(pathlib.Path(folder, "matbench.html").read_bytes(), pages.PAGE.read_bytes())
+                subprocess.run(build, check=True, cwd=folder,
+                               env={**os.environ, "PYTHONHASHSEED": seed})
+                self.assertEqual(pathlib.Path(folder, "matbench.html").read_bytes(),
+                                 pages.PAGE.read_bytes())
 
     def test_it_solves(self):
         self.assertEqual(self.text("#description"), PEOPLE)
@@ -728,7 +673,7 @@ class OneFile(Page):
         self.picture("one_file")
 
     def test_it_makes_a_link_and_keeps_a_text(self):
-        self.browser.run("document.querySelector('#link').click()")
+        self.of("#link", "it.click()")
         self.browser.wait("location.hash.startsWith('#intersect,2,')")
         self.write("#description", PEOPLE + "typed")
         self.load_again()
@@ -743,7 +688,7 @@ class Old(Page):
     def test_it_says_what_is_needed(self):
         self.browser.run_before_pages("delete globalThis.DecompressionStream;")
         self.browser.open(pages.ONE_FILE)
-        self.browser.wait("document.querySelector('#unable').textContent")
+        self.wait_for("#unable", "it.textContent")
         self.assertIn("DecompressionStream", self.text("#unable"))
         self.browser.forget()
 
@@ -768,9 +713,10 @@ class Narrow(Page):
     def test_it_says_what_is_needed(self):
         self.browser.run_before_pages("WebAssembly.validate = () => false;")
         self.open(self.address)
-        self.browser.wait("document.querySelector('#unable').textContent")
+        self.wait_for("#unable", "it.textContent")
         self.assertIn("memory64", self.text("#unable"))
-        self.assertTrue(self.browser.run("document.querySelector('#solve').disabled && document.querySelector('#check').disabled"))
+        for button in ("#solve", "#check"):
+            self.assertTrue(self.of(button, "it.disabled"))
         self.picture("narrow")
 
 

@@ -17,7 +17,8 @@ ASKED = []
 
 
 class _Handler(http.server.SimpleHTTPRequestHandler):
-    extensions_map = {**http.server.SimpleHTTPRequestHandler.extensions_map, ".mjs": "text/javascript", ".wasm": "application/wasm"}
+    extensions_map = {**http.server.SimpleHTTPRequestHandler.extensions_map,
+                      ".mjs": "text/javascript", ".wasm": "application/wasm"}
 
     def __init__(self, *given, missing, **more):
         self.missing = missing
@@ -30,13 +31,19 @@ class _Handler(http.server.SimpleHTTPRequestHandler):
             return super().send_head()
         return self.send_error(404)
 
+    def copyfile(self, source, outputfile):
+        """Hands on a file. A browser that leaves the page takes no more of it."""
+        with contextlib.suppress(BrokenPipeError, ConnectionResetError):
+            super().copyfile(source, outputfile)
+
     def log_message(self, *_):
         """Says nothing."""
 
 
 @contextlib.contextmanager
 def served(missing=None):
-    """The address of the page's files from a server of this machine, without the one that is missing there."""
+    """The address of the page's files from a server of this machine, without the one that is
+    missing there."""
     handler = functools.partial(_Handler, directory=OUT / "web", missing=missing)
     with http.server.ThreadingHTTPServer(("127.0.0.1", 0), handler) as server:
         threading.Thread(target=server.serve_forever, daemon=True).start()
@@ -54,19 +61,26 @@ def opened(program=None):
         found.close()
 
 
+def _give(browser, selector, value, event):
+    """Gives an element a value, which it has by an event of this name."""
+    change = f"it.value = {json.dumps(value)}; it.dispatchEvent(new Event('{event}'));"
+    browser.run(f"((it) => {{ {change} }})(document.querySelector('{selector}'))")
+
+
 def choose(browser, selector, value):
     """Chooses an item of a list."""
-    browser.run(f"((it) => {{ it.value = {json.dumps(value)}; it.dispatchEvent(new Event('change')); }})(document.querySelector('{selector}'))")
+    _give(browser, selector, value, "change")
 
 
 def write(browser, selector, text):
     """Puts a text into a box, as if it were typed."""
-    browser.run(f"((it) => {{ it.value = {json.dumps(text)}; it.dispatchEvent(new Event('input')); }})(document.querySelector('{selector}'))")
+    _give(browser, selector, text, "input")
 
 
 def text(browser, selector):
     """The text of an element, or what stands in a box."""
-    return browser.run(f"((it) => it.value ?? it.textContent)(document.querySelector('{selector}'))")
+    found = f"document.querySelector('{selector}')"
+    return browser.run(f"((it) => it.value ?? it.textContent)({found})")
 
 
 def state(browser):

@@ -660,6 +660,8 @@ class Graphs(unittest.TestCase):
             matbench.trees(graph, 1)
         with self.assertRaisesRegex(ValueError, "no node 'x'"):
             matbench.rooted_description(networkx.DiGraph([(1, 2)]), "x")
+        with self.assertRaisesRegex(ValueError, "no node 'x'"):
+            matbench.table_description(networkx.Graph([(1, 2)]), [1, "x"])
         with self.assertRaisesRegex(ValueError, "no attribute 'colour'"):
             matbench.coloured_description(graph)
 

@@ -1,4 +1,5 @@
-"""The part of a WebSocket's client (RFC 6455) that a test needs to talk with a browser of this machine: texts, one after another."""
+"""The part of a WebSocket's client (RFC 6455) that a test needs to talk with a browser of this
+machine: texts, one after another."""
 import base64
 import os
 import socket
@@ -21,7 +22,8 @@ class WebSocket:
         self.socket = socket.create_connection(("127.0.0.1", port), timeout=longest)
         self.stream = self.socket.makefile("rb")
         key = base64.b64encode(os.urandom(16)).decode()
-        lines = [f"GET {path} HTTP/1.1", f"Host: 127.0.0.1:{port}", "Upgrade: websocket", "Connection: Upgrade", f"Sec-WebSocket-Key: {key}",
+        lines = [f"GET {path} HTTP/1.1", f"Host: 127.0.0.1:{port}", "Upgrade: websocket",
+                 "Connection: Upgrade", f"Sec-WebSocket-Key: {key}",
                  "Sec-WebSocket-Version: 13", "", ""]
         self.socket.sendall("\r\n".join(lines).encode())
         status = self.stream.readline()
@@ -37,7 +39,8 @@ class WebSocket:
         return found
 
     def _frame(self):
-        """The next frame: whether its message ends with it, of what kind it is, and what it holds."""
+        """The next frame: whether its message ends with it, of what kind it is, and what it
+        holds."""
         first, length = self._read(2)
         if length == 126:
             length, = struct.unpack(">H", self._read(2))

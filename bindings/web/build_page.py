@@ -1,7 +1,9 @@
-"""build_page.py TOP OUT: makes the page from the files beside this one and from the documents and examples of the repository TOP.
+"""build_page.py TOP OUT: makes the page from the files beside this one and from the documents and
+examples of the repository TOP.
 
-OUT/web/ is the page as files, for any static server, and OUT/matbench.html the same as one file, which works from a folder too: its module and its
-data are compressed. The same files give the same bytes. OUT/matbench.wasm has to be there.
+OUT/web/ is the page as files, for any static server, and OUT/matbench.html the same as one file,
+which works from a folder too: its module and its data are compressed. The same files give the same
+bytes. OUT/matbench.wasm has to be there.
 """
 import base64
 import hashlib
@@ -13,16 +15,19 @@ import sys
 import zlib
 
 HERE = os.path.dirname(os.path.abspath(__file__))
-PAGE = ("index.html", "style.css", "parts.mjs", "matbench.mjs", "matbench.d.mts", "worker.mjs", "run.mjs", "textbox.mjs", "link.mjs",
+PAGE = ("index.html", "style.css", "parts.mjs", "matbench.mjs", "matbench.d.mts", "worker.mjs",
+        "run.mjs", "textbox.mjs", "link.mjs",
         "kept.mjs", "answer.mjs", "page.mjs")
 #: The parts of the one file's script, each before those that take from it.
-SCRIPT = ("matbench.mjs", "run.mjs", "textbox.mjs", "link.mjs", "kept.mjs", "answer.mjs", "page.mjs")
+SCRIPT = ("matbench.mjs", "run.mjs", "textbox.mjs", "link.mjs", "kept.mjs", "answer.mjs",
+          "page.mjs")
 #: parts.mjs of the one file, and a function that takes what `packed` made.
 PARTS = """
 const textOf = (id) => document.getElementById(id).textContent;
 function unpacked(id) {
   const bytes = Uint8Array.from(atob(textOf(id)), (it) => it.charCodeAt(0));
-  return new Response(new Blob([bytes]).stream().pipeThrough(new DecompressionStream("deflate-raw")));
+  const stream = new DecompressionStream("deflate-raw");
+  return new Response(new Blob([bytes]).stream().pipeThrough(stream));
 }
 async function loadModule() {
   return unpacked("module").arrayBuffer();
@@ -39,7 +44,8 @@ if (!globalThis.DecompressionStream) {
 """
 #: data.mjs of the one file.
 DATA = "const {{ {names} }} = await unpacked(\"data\").json();\n"
-POLICY = ("default-src 'none'; script-src '{script}' 'wasm-unsafe-eval'; style-src '{style}'; connect-src 'none'; worker-src blob:; "
+POLICY = ("default-src 'none'; script-src '{script}' 'wasm-unsafe-eval'; style-src '{style}'; "
+          "connect-src 'none'; worker-src blob:; "
           "img-src data:; base-uri 'none'; form-action 'none'")
 
 
@@ -57,25 +63,30 @@ def rows_below(text, heading):
     """The cells of each row of the first table below a heading."""
     section = f"\n{text}".split(f"\n{heading}\n", 1)[1]
     table = re.search(r"(?:^\|.*\n)+", section, re.M).group()
-    return [[cell.strip() for cell in re.split(r"(?<!\\)\|", line)[1:-1]] for line in table.splitlines()[2:]]
+    return [[cell.strip() for cell in re.split(r"(?<!\\)\|", line)[1:-1]]
+            for line in table.splitlines()[2:]]
 
 
 def limits(formats):
     """The lines of each kind of matroid, and which sets it allows."""
     section = formats.split("\n### Matroids\n", 1)[1].split("\n### ", 1)[0]
     tables = re.findall(r"(?:^\|.*\n)+", section, re.M)
-    return [{"lines": row[0], "allowed": row[1]} for table in tables for row in rows_below(f"# all\n{table}", "# all")]
+    return [{"lines": row[0], "allowed": row[1]} for table in tables
+            for row in rows_below(f"# all\n{table}", "# all")]
 
 
 def faults(formats):
     """What each fault of a description and of a certificate means."""
-    headings = {"description": "### What is wrong with a description", "certificate": "### What is wrong with a certificate"}
-    return {what: [{"name": row[1], "meaning": row[2]} for row in rows_below(formats, heading)] for what, heading in headings.items()}
+    headings = {"description": "### What is wrong with a description",
+                "certificate": "### What is wrong with a certificate"}
+    return {what: [{"name": row[1], "meaning": row[2]} for row in rows_below(formats, heading)]
+            for what, heading in headings.items()}
 
 
 def reasons(formats):
-    """What each failed clause of an answer means: a row for each note of a cell, with the words of its places (a number, or the letter that the
-    meaning has for one), words of the header of the answer, none where it is each, and the word that the header has to have besides, or None."""
+    """What each failed clause of an answer means: a row for each note of a cell, with the words of
+    its places (a number, or the letter that the meaning has for one), words of the header of the
+    answer, none where it is each, and the word that the header has to have besides, or None."""
     made, answers = [], []
     for answer, notes, told in rows_below(formats, "### What is wrong with an answer"):
         if answer:
@@ -83,13 +94,16 @@ def reasons(formats):
         variant, meanings = re.fullmatch(r"(?:of `([a-z]+)`: )?(.*)", told).groups()
         for note, meaning in zip(notes.split(", "), meanings.split("; "), strict=True):
             _, reason, *places = note.strip("`").split()
-            made.append({"reason": reason, "places": places, "answers": answers, "variant": variant, "meaning": meaning})
+            made.append({"reason": reason, "places": places, "answers": answers, "variant": variant,
+                         "meaning": meaning})
     return made
 
 
 def abouts(help_text):
-    """What the lines of --help say of each command, and whether it takes a number K. The texts stand in one column, behind the words."""
-    usage = help_text[help_text.index("usage: "):].split("\n\n", 1)[0].replace("usage:", "      ", 1)
+    """What the lines of --help say of each command, and whether it takes a number K. The texts
+    stand in one column, behind the words."""
+    usage = help_text[help_text.index("usage: "):].split("\n\n", 1)[0]
+    usage = usage.replace("usage:", "      ", 1)
     column = re.match(r" +\S.*?  +", usage).end()
     found, name = {}, None
     for line in usage.splitlines():
@@ -106,7 +120,8 @@ def abouts(help_text):
 
 
 def commands(help_text, formats):
-    """The commands that read a description and write a text, what each is for, and the forms that it takes."""
+    """The commands that read a description and write a text, what each is for, and the forms that
+    it takes."""
     forms = {}
     for form, names in rows_below(formats, "## Descriptions"):
         alone = names.split("where M is 1")[1] if "where M is 1" in names else ""
@@ -117,7 +132,8 @@ def commands(help_text, formats):
     for name, (about, counted) in abouts(help_text).items():
         if name in forms and name not in ("witness", "verify") or name in ("show", "convert"):
             taken, single = forms.get(name, (every, False))
-            made.append({"name": name, "about": about, "counted": counted, "forms": taken, "single": single})
+            made.append({"name": name, "about": about, "counted": counted, "forms": taken,
+                         "single": single})
     return sorted(made, key=lambda it: it["name"] in ("show", "convert"))
 
 
@@ -127,9 +143,11 @@ def place_of(heading):
 
 
 def title_of(name, title, link, readme, cookbook):
-    """What an example is called: the heading that its link leads to, or else what its row says it is for."""
+    """What an example is called: the heading that its link leads to, or else what its row says it
+    is for."""
     if "COOKBOOK.md#" in link:
-        heading = next(it for it in re.findall(r"^#+ (.*)", cookbook, re.M) if place_of(it) == link.split("#", 1)[1])
+        heading = next(it for it in re.findall(r"^#+ (.*)", cookbook, re.M)
+                       if place_of(it) == link.split("#", 1)[1])
         return heading[0].lower() + heading[1:]
     heading = re.search(rf"^## .*`{re.escape(name)}`.*?: (.*)", readme, re.M)
     return heading[1] if heading else title.split(":")[0]
@@ -137,10 +155,12 @@ def title_of(name, title, link, readme, cookbook):
 
 def examples(top, known):
     """The descriptions of examples/, each with the command of its row in examples/README.md."""
-    told, readme, cookbook = {}, read(top, "examples", "README.md"), read(top, "docs", "COOKBOOK.md")
+    readme, cookbook = read(top, "examples", "README.md"), read(top, "docs", "COOKBOOK.md")
+    told = {}
     for title, words, _, links in rows_below(readme, "# Examples"):
         for name, link in re.findall(r"\[(\w+\.txt)\]\(([^)]*)\)", links):
-            told.setdefault(name, (title_of(name, title, link, readme, cookbook), re.findall(r"`([a-z]+)(?: (\d+))?`", words)))
+            told.setdefault(name, (title_of(name, title, link, readme, cookbook),
+                                   re.findall(r"`([a-z]+)(?: (\d+))?`", words)))
     made = []
     for name in sorted(os.listdir(os.path.join(top, "examples"))):
         text = read(top, "examples", name) if name.endswith(".txt") else ""
@@ -149,8 +169,10 @@ def examples(top, known):
         form = text.split("\n")[1].split()[0]
         fitting = [it["name"] for it in known if form in it["forms"]]
         title, words = told.get(name, (text.split("\n")[1], []))
-        command, count = next(((word, count) for word, count in words if word in fitting), (fitting[0], ""))
-        made.append({"file": name, "title": title, "form": form, "command": command, "count": int(count or 2), "text": text})
+        command, count = next(((word, count) for word, count in words if word in fitting),
+                              (fitting[0], ""))
+        made.append({"file": name, "title": title, "form": form, "command": command,
+                     "count": int(count or 2), "text": text})
     order = known[-1]["forms"]
     return sorted(made, key=lambda it: order.index(it["form"]))
 
@@ -162,20 +184,26 @@ def version(help_source):
 
 def data(top):
     """What data.mjs has, by its names there."""
-    formats, help_source = read(top, "docs", "FORMATS.md"), read(top, "crates", "mat_main", "src", "help.rt")
+    formats = read(top, "docs", "FORMATS.md")
+    help_source = read(top, "crates", "mat_main", "src", "help.rt")
     known = commands(help_source, formats)
-    return {"VERSION": version(help_source), "COMMANDS": known, "EXAMPLES": examples(top, known), "LIMITS": limits(formats),
+    return {"VERSION": version(help_source), "COMMANDS": known, "EXAMPLES": examples(top, known),
+            "LIMITS": limits(formats),
             "FAULTS": faults(formats), "REASONS": reasons(formats)}
 
 
 def data_module(parts):
     """The module data.mjs."""
-    lines = [f"export const {name} = {json.dumps(part, indent=1)};\n" for name, part in parts.items()]
-    return "// Made by build_page.py from docs/FORMATS.md, the texts of --help and --version, and examples/.\n" + "".join(lines)
+    lines = [f"export const {name} = {json.dumps(part, indent=1)};\n" for name,
+             part in parts.items()]
+    head = ("// Made by build_page.py from docs/FORMATS.md, the texts of --help and --version, "
+            "and examples/.\n")
+    return head + "".join(lines)
 
 
 def joined(texts):
-    """Modules as one script: what they take from each other and what they hand out is all in one scope."""
+    """Modules as one script: what they take from each other and what they hand out is all in one
+    scope."""
     whole = "".join(texts)
     whole = re.sub(r"^import [^;]*;\n", "", whole, flags=re.M)
     return re.sub(r"^export ", "", whole, flags=re.M)
@@ -200,7 +228,8 @@ def block(name, text):
 def one_file(out, parts):
     """The page as one file."""
     folder = os.path.join(out, "web")
-    script = "\n" + PARTS + DATA.format(names=", ".join(parts)) + joined(read(folder, name) for name in SCRIPT)
+    script = "\n" + PARTS + DATA.format(names=", ".join(parts))
+    script += joined(read(folder, name) for name in SCRIPT)
     style = "\n" + read(folder, "style.css")
     worker = joined(read(folder, name) for name in ("matbench.mjs", "worker.mjs"))
     with open(os.path.join(out, "matbench.wasm"), "rb") as file:
@@ -208,10 +237,12 @@ def one_file(out, parts):
     assert "</script" not in script + worker, "a script would end early"
     page = read(folder, "index.html")
     policy = POLICY.format(script=source_of(script), style=source_of(style))
-    page = re.sub(r'(http-equiv="Content-Security-Policy" content=)"[^"]*"', lambda hit: f'{hit[1]}"{policy}"', page)
+    page = re.sub(r'(http-equiv="Content-Security-Policy" content=)"[^"]*"',
+                  lambda hit: f'{hit[1]}"{policy}"', page)
     page = page.replace('<link rel="stylesheet" href="style.css">', f"<style>{style}</style>")
     page = page.replace('<script type="module" src="page.mjs"></script>\n', "")
-    blocks = block("worker", worker) + block("data", packed(json.dumps(parts).encode())) + block("module", module)
+    blocks = block("worker", worker) + block("data", packed(json.dumps(parts).encode()))
+    blocks += block("module", module)
     return page.replace("</body>", f'{blocks}<script type="module">{script}</script>\n</body>')
 
 

@@ -7,6 +7,8 @@ import { moduleOfProgram, Run } from "./run.mjs";
 import { TextBox } from "./textbox.mjs";
 
 const MOST_CERTIFICATE = 67_108_864;
+/** How long a problem stays as it is before the page solves it by itself, in milliseconds. */
+const PAUSE = 600;
 
 /** What the exit statuses mean whose notes say no more. */
 const STATUSES = {
@@ -34,6 +36,8 @@ let running = null;
 let begunBy = at("solve");
 /** The command that answered what stands in the box, or null where it came from elsewhere. */
 let answered = null;
+/** The timer of the pause behind the last change of the problem. */
+let pause = null;
 
 // --- What can be chosen ---
 
@@ -86,6 +90,12 @@ function setProblem(problem) {
   setCommand(problem);
 }
 
+/** Puts a problem here that nobody chose in the page, as that of a link. Such a one is not solved unasked. */
+function setGivenProblem(problem) {
+  setProblem(problem);
+  clearTimeout(pause);
+}
+
 function setCommand({ command, count }) {
   if ([...at("command").options].some((it) => it.value === command)) at("command").value = command;
   at("count").value = count || 2;
@@ -126,6 +136,10 @@ function showRefusal({ status, note }) {
   say(status === 1 ? "The answer is not right." : `Refused: ${note.replace("refused: ", "")}.`);
 }
 
+function scrollToFault() {
+  for (const box of [description, answer]) box.scrollToFault();
+}
+
 /** Whether a row of the reasons is that of a note with these numbers, for an answer with this header. */
 function isReason({ answers, places }, numbers, header) {
   const isOfAnswer = answers.length === 0 || answers.some((word) => header.includes(word));
@@ -153,17 +167,24 @@ function forget() {
   say("");
 }
 
+/** Nothing stays that the page answered to the problem before, and after a pause it solves this one. */
+function onProblem() {
+  forget();
+  if (answered) answer.text = "";
+  solveSoon();
+}
+
 /** The example that is chosen is the one that has the text of the description. */
 function onDescription() {
-  forget();
+  onProblem();
   const place = EXAMPLES.findIndex((it) => it.text === description.text);
   at("example").value = place < 0 ? "" : place;
   fillCommands();
 }
 
-/** An answer of the page does not stay beside another problem that was opened, chosen or followed by a link. */
-function dropAnswer() {
-  if (answered) answer.text = "";
+function onCommand() {
+  showCommand();
+  onProblem();
 }
 
 /** Whether a text is no certificate but a description, as those are that show and convert write. */
@@ -205,7 +226,6 @@ async function run(words, files, doing = "Running", before = "") {
 /** While a program runs its buttons keep the focus, and do nothing. That of Stop, which is hidden then, goes back to the one that began the run. */
 function setRunning(isRunning) {
   for (const id of ["solve", "check"]) at(id).setAttribute("aria-disabled", isRunning);
-  for (const box of [description, answer]) box.lock(isRunning);
   if (!isRunning && document.activeElement === at("stop")) begunBy.focus();
   at("stop").disabled = !isRunning;
   if (!isRunning) running = null;
@@ -214,8 +234,23 @@ function setRunning(isRunning) {
 /** Does what a button is for, unless something runs. */
 function begin(button, action) {
   if (running) return;
+  clearTimeout(pause);
   begunBy = at(button);
   action();
+}
+
+/** Solves after a pause in which the problem stays as it is, where that is wanted. */
+function solveSoon() {
+  clearTimeout(pause);
+  if (at("live").checked) pause = setTimeout(solveUnasked, PAUSE);
+}
+
+/** Solves if there is something to solve. No answer takes the place of a certificate that came from elsewhere, unless it is asked for. */
+function solveUnasked() {
+  const canSolve = !at("solve").disabled && at("problem").checkValidity() && description.text.trim();
+  if (!canSolve) return;
+  if (answered || !answer.text.trim()) begin("description", solve);
+  else say("Solve puts the answer in the place of the certificate that was written or opened here.");
 }
 
 async function solve() {
@@ -227,6 +262,8 @@ async function solve() {
   if (!ended) return;
   if (ended.status !== 0) {
     showRefusal(ended);
+    // Who types may look at another line.
+    if (begunBy !== description.area) scrollToFault();
     return;
   }
   answer.text = ended.output;
@@ -242,8 +279,12 @@ async function check() {
   const files = { description: description.text, answer: answer.text };
   const ended = await run(["check", "description", "answer"], files);
   if (!ended) return;
-  if (ended.status !== 0) showRefusal(ended);
-  else await showAnswer(`${ended.output.trim()}: the answer is right. Judged in ${timeOf(ended.milliseconds)}.`, files);
+  if (ended.status !== 0) {
+    showRefusal(ended);
+    scrollToFault();
+    return;
+  }
+  await showAnswer(`${ended.output.trim()}: the answer is right. Judged in ${timeOf(ended.milliseconds)}.`, files);
 }
 
 /** Tells and draws a right answer, and says last what was said of it at first. */
@@ -294,24 +335,26 @@ async function copyLink() {
 async function followLink() {
   const problem = await problemOf(location.hash);
   const shown = problemOfPage();
-  if (problem && Object.keys(shown).some((it) => shown[it] !== problem[it])) setProblem(problem);
+  if (problem && Object.keys(shown).some((it) => shown[it] !== problem[it])) setGivenProblem(problem);
   return problem;
 }
 
 /** Keeps what stands in the page, or at least the problem, with the fragment under which it stands there. */
 function keepTexts() {
-  const problem = { ...problemOfPage(), fragment: location.hash };
+  const problem = { ...problemOfPage(), fragment: location.hash, live: at("live").checked };
   keep({ ...problem, answer: answer.text, answered }, problem);
 }
 
 /** Puts back what was kept under this fragment, and answers whether there was anything: it is later than the problem that the fragment holds. */
 function takeKept() {
   const found = kept();
+  at("live").checked = found?.live ?? true;
   if (found?.fragment !== location.hash || !found.text) return false;
   putBack(description, found.text, !EXAMPLES.some((it) => it.text === found.text));
   setCommand(found);
   if (found.answer) putBack(answer, found.answer, !found.answered);
   answered = found.answered ?? null;
+  clearTimeout(pause);
   return true;
 }
 
@@ -330,7 +373,12 @@ function takeFile(event, box) {
 function onKey(event) {
   const isCall = event.key === "Enter" && (event.ctrlKey || event.metaKey);
   if (isCall && !at("solve").disabled) at("problem").requestSubmit(at("solve"));
-  if (event.key === "Escape") running?.stop();
+  if (event.key === "Escape") stop();
+}
+
+function stop() {
+  clearTimeout(pause);
+  running?.stop();
 }
 
 // --- The beginning ---
@@ -341,7 +389,7 @@ function listen() {
     begin("solve", solve);
   });
   at("check").addEventListener("click", () => begin("check", check));
-  at("stop").addEventListener("click", () => running?.stop());
+  at("stop").addEventListener("click", stop);
   at("link").addEventListener("click", copyLink);
   at("save-description").addEventListener("click", () => save(description.text, "description.txt"));
   at("save-answer").addEventListener("click", () => save(answer.text, `${answered ?? "answer"}.answer`));
@@ -349,9 +397,10 @@ function listen() {
   at("open-description").addEventListener("change", (event) => takeFile(event, description));
   at("open-answer").addEventListener("change", (event) => takeFile(event, answer));
   at("description").addEventListener("input", onDescription);
-  at("description").addEventListener("replace", dropAnswer);
   at("answer").addEventListener("input", onAnswer);
-  at("command").addEventListener("change", showCommand);
+  at("command").addEventListener("change", onCommand);
+  at("count").addEventListener("input", onProblem);
+  at("live").addEventListener("change", solveSoon);
   at("example").addEventListener("change", () => EXAMPLES[at("example").value] && setProblem(EXAMPLES[at("example").value]));
   document.addEventListener("keydown", onKey);
   // A file that is dropped beside a box is not opened in place of the page. A text that is dragged is left to the browser.
@@ -370,7 +419,7 @@ async function start() {
   // Firefox enables at first what was enabled when the page was loaded again.
   setRunning(false);
   if (!takeKept() && !(await followLink())) {
-    setProblem(EXAMPLES.find((it) => it.file === "people.txt"));
+    setGivenProblem(EXAMPLES.find((it) => it.file === "people.txt"));
   }
   moduleOfProgram().catch((error) => {
     at("unable").textContent = error.message;

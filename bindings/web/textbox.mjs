@@ -46,7 +46,6 @@ export class TextBox {
   #given = "";
   /** What was written here before another text came in its place, or null. */
   #replaced = null;
-  #isLocked = false;
 
   /**
    * `area` is a textarea within a box that has an element of the class `mark`; `fault` is where a fault is told, `part` where it is told how much
@@ -68,26 +67,20 @@ export class TextBox {
     return this.#whole ?? this.area.value;
   }
 
-  /** Puts another text into the box. The area has the event `input` then, as if it were typed, and `replace`. */
+  /** Puts another text into the box. The area has the event `input` then, as if it were typed. */
   set text(text) {
     const before = this.text;
     if (before.trim() && before !== this.#given) this.#replaced = before;
     this.back.hidden = this.#replaced === null;
     this.#show(text.replace(/\r\n?/g, "\n"));
     this.#given = this.text;
-    for (const kind of ["input", "replace"]) this.area.dispatchEvent(new Event(kind, { bubbles: true }));
+    this.area.dispatchEvent(new Event("input", { bubbles: true }));
   }
 
   /** Puts a text into the box that was written there before. */
   restore(text) {
     this.text = text;
     this.#given = "";
-  }
-
-  /** Has the text stay as it is, or lets it be changed again. A text whose rest is not shown cannot be changed. */
-  lock(isLocked) {
-    this.#isLocked = isLocked;
-    this.area.readOnly = isLocked || this.#whole !== null;
   }
 
   /** Puts what a file holds into the box. */
@@ -103,7 +96,10 @@ export class TextBox {
     }
   }
 
-  /** The area is out of the page while its text is changed: a browser forgets then what it could undo there, which was of another text. */
+  /**
+   * The area is out of the page while its text is changed: a browser forgets then what it could undo there, which was of another text. A text whose
+   * rest is not shown cannot be changed.
+   */
   #show(text) {
     const hasFocus = document.activeElement === this.area;
     const length = lengthShown(text, this.mostCharacters);
@@ -114,7 +110,7 @@ export class TextBox {
     if (hasFocus) this.area.focus({ preventScroll: true });
     this.area.scrollTop = 0;
     this.#tellPart();
-    this.lock(this.#isLocked);
+    this.area.readOnly = this.#whole !== null;
   }
 
   /** Tells how much of a text is shown where that is not all. */
@@ -164,7 +160,13 @@ export class TextBox {
     this.fault.replaceChildren(...parts);
     if (!isShown) return;
     this.fault.append(" ", buttonFor(`Go to line ${line}`, () => this.#goTo(line)));
-    this.area.scrollTop = Math.max(0, (line - 4) * this.#lineHeight());
+    this.#placeMark();
+  }
+
+  /** Scrolls to the line that is marked, if one is. */
+  scrollToFault() {
+    if (this.line === null) return;
+    this.area.scrollTop = Math.max(0, (this.line - 4) * this.#lineHeight());
     this.#placeMark();
   }
 

@@ -1,12 +1,15 @@
-"""python3 examples/many/draw.py COUNT SIZE SEED FOLDER: draws COUNT problems of SIZE elements, and prints a list of jobs.
+"""python3 examples/many/draw.py COUNT SIZE SEED FOLDER: draws COUNT problems of SIZE elements, and
+prints a list of jobs.
 
-The problems are those of `./matbench sample KIND SIZE SEED` for the numbers SEED, SEED + 1 and so on, of the five kinds in turn (docs/FORMATS.md,
-Samples). FOLDER gets a file for each. A line of the list has an id, the words of the command and the file, with a tab between them.
+The problems are those of `./matbench sample KIND SIZE SEED` for the numbers SEED, SEED + 1 and so
+on, of the five kinds in turn (docs/FORMATS.md, Samples). FOLDER gets a file for each. A line of the
+list has an id, the words of the command and the file, with a tab between them.
 """
 import os
 import sys
 
-KINDS = (("pair", "intersect"), ("list", "union"), ("graph", "trees 2"), ("rooted", "arborescence"), ("table", "assign"))
+KINDS = (("pair", "intersect"), ("list", "union"), ("graph", "trees 2"), ("rooted", "arborescence"),
+         ("table", "assign"))
 
 
 class Draws:
@@ -38,7 +41,8 @@ def pair(n, draws):
         classes[draws.below(len(classes))].append(element)
         weights.append(draws.weight())
     members = [" ".join(map(str, ["class", 1, *some])) for some in classes]
-    return [f"pair {n}", " ".join(map(str, ["weights", *weights])), f"graphic {vertices}", *edges, f"partition {len(classes)}", *members]
+    return [f"pair {n}", " ".join(map(str, ["weights", *weights])), f"graphic {vertices}", *edges,
+            f"partition {len(classes)}", *members]
 
 
 def two_graphs(n, draws):
@@ -61,13 +65,15 @@ def graph(n, draws):
 def rooted(n, draws):
     """A directed graph with costs and the root 0."""
     vertices = n // 4 + 2
-    return [f"rooted {vertices} {n} 0", *(f"{draws.ends('arc', vertices)} {draws.below(1001)}" for _ in range(n))]
+    return [f"rooted {vertices} {n} 0", *(f"{draws.ends('arc', vertices)} {draws.below(1001)}"
+                                          for _ in range(n))]
 
 
 def table(n, draws):
     """A table with weighted cells."""
     lines = n // 4 + 1
-    return [f"table {lines} {lines} {n}", *(f"{draws.ends('cell', lines)} {draws.weight()}" for _ in range(n))]
+    return [f"table {lines} {lines} {n}", *(f"{draws.ends('cell', lines)} {draws.weight()}"
+                                            for _ in range(n))]
 
 
 def main():
@@ -82,7 +88,8 @@ def main():
         kind, words = KINDS[number % len(KINDS)]
         name = os.path.join(folder, f"{kind}_{size}_{seed + number}.txt")
         with open(name, "w", encoding="ascii") as file:
-            file.write("\n".join(["matroids 1", *makers[kind](size, Draws(seed + number)), "end"]) + "\n")
+            file.write("\n".join(["matroids 1", *makers[kind](size, Draws(seed + number)), "end"])
+                       + "\n")
         print(f"{kind}_{seed + number}", words, name, sep="\t")
 
 

@@ -1,15 +1,22 @@
 """python3 examples/many/jobs.py: a list of jobs before and after other machines worked on it.
 
-  jobs.py lay LIST RUN            lays out the folder RUN: what is to be sent, and RUN/todo with a line for each job that has no certificate yet
-  jobs.py take RUN SHARE          takes what came back in a folder that others can write, SHARE/out, into RUN/out
-  jobs.py judge LIST RUN [W]      judges every certificate by `check` on this machine, W at a time (else 1), and says what is right
+  jobs.py lay LIST RUN            lays out the folder RUN: what is to be sent, and RUN/todo with a
+                                  line for each job that has no certificate yet
+  jobs.py take RUN SHARE          takes what came back in a folder that others can write, SHARE/out,
+                                  into RUN/out
+  jobs.py judge LIST RUN [W]      judges every certificate by `check` on this machine, W at a time
+                                  (else 1), and says what is right
 
-A line of LIST has an id, the words of a solving command, and a file, with a tab between them; the file is named from the folder of the call. In RUN
-  in/ID                           is the canonical text of the file, which is what is sent: without names, and judged before
-  out/ID.cert, out/ID.status      is what came back: a certificate; and the status, the host and the note
+A line of LIST has an id, the words of a solving command, and a file, with a tab between them; the
+file is named from the folder of the call. In RUN
+  in/ID                           is the canonical text of the file, which is what is sent: without
+                                  names, and judged before
+  out/ID.cert, out/ID.status      is what came back: a certificate; and the status, the host and the
+                                  note
   right/ID.cert                   is a copy of the certificate that was judged right, and
   refused                         has the ids of those that were not.
-RUN is private: no other machine writes there. The program is crates/mat_main/out/mat_main unless the variable MATBENCH names another.
+RUN is private: no other machine writes there. The program is crates/mat_main/out/mat_main unless
+the variable MATBENCH names another.
 """
 import os
 import re
@@ -23,7 +30,8 @@ from concurrent.futures import ThreadPoolExecutor
 TOP = os.path.dirname(os.path.dirname(os.path.dirname(os.path.abspath(__file__))))
 PROGRAM = os.environ.get("MATBENCH") or os.path.join(TOP, "crates/mat_main/out/mat_main")
 ID = re.compile(r"[A-Za-z0-9][A-Za-z0-9_-]{0,63}")
-WORDS = re.compile(r"best|intersect|union|pack|cover|arborescence|rainbow|assign|(trees|disjoint) ([1-9]|[1-5][0-9]|6[0-4])")
+WORDS = re.compile(r"best|intersect|union|pack|cover|arborescence|rainbow|assign"
+                   r"|(trees|disjoint) ([1-9]|[1-5][0-9]|6[0-4])")
 LONGEST_DESCRIPTION = 4194304
 LONGEST_CERTIFICATE = 67108864
 LONGEST_STATUS = 400
@@ -38,8 +46,10 @@ def jobs_of(name):
     jobs = {}
     for number, line in enumerate(lines, 1):
         parts = line.split("\t")
-        if len(parts) != 3 or not ID.fullmatch(parts[0]) or not WORDS.fullmatch(parts[1]) or not parts[2]:
-            sys.exit(f"jobs.py: {name}: line {number} is not ID, WORDS and FILE with a tab between them")
+        are_three = len(parts) == 3 and parts[2]
+        if not are_three or not ID.fullmatch(parts[0]) or not WORDS.fullmatch(parts[1]):
+            sys.exit(f"jobs.py: {name}: line {number} is not ID, WORDS and FILE "
+                     "with a tab between them")
         if parts[0] in jobs:
             sys.exit(f"jobs.py: {name}: line {number}: this id stood before")
         jobs[parts[0]] = (parts[1], os.path.abspath(parts[2]))
@@ -48,7 +58,8 @@ def jobs_of(name):
 
 def program(*words):
     """The status, the output and the note of a call of the program."""
-    done = subprocess.run([PROGRAM, *words], stdin=subprocess.DEVNULL, capture_output=True, check=False)
+    done = subprocess.run([PROGRAM, *words], stdin=subprocess.DEVNULL, capture_output=True,
+                          check=False)
     return done.returncode, done.stdout, done.stderr.decode("ascii", "replace").strip()
 
 
@@ -68,7 +79,8 @@ def remove(name):
 
 
 def read_plain(name, most):
-    """The bytes of a plain file, of a longer one a byte more than so many; None where there is none. It follows no link, and waits for no pipe."""
+    """The bytes of a plain file, of a longer one a byte more than so many; None where there is
+    none. It follows no link, and waits for no pipe."""
     try:
         handle = os.open(name, os.O_RDONLY | os.O_NOFOLLOW | os.O_NONBLOCK)
     except FileNotFoundError:
@@ -104,7 +116,8 @@ def lay(jobs, run):
         if status != 0:
             faulty += 1
             print(f"not sent: {name}: {note}")
-            write(os.path.join(run, "out", name + ".status"), f"{status} on this machine: {note}\n".encode())
+            write(os.path.join(run, "out", name + ".status"),
+                  f"{status} on this machine: {note}\n".encode())
             continue
         remove(os.path.join(run, "out", name + ".status"))
         write(os.path.join(run, "in", name), text)
@@ -129,15 +142,16 @@ def take(run, share):
 
 
 def is_asked(data, words):
-    """Whether a certificate's header has the command of the job, and its number where it has one. `check` judges what the certificate says it
-    answers: the two trees of `trees 2` are a right answer, but to `trees 3` they are none."""
+    """Whether a certificate's header has the command of the job, and its number where it has one.
+    `check` judges what the certificate says it answers: the two trees of `trees 2` are a right
+    answer, but to `trees 3` they are none."""
     head, asked = data.split(b"\n", 2)[1].decode().split(), words.split()
     return head[1] == asked[0] and (len(asked) == 1 or head[3] == asked[1])
 
 
 def fault_of(run, name, words, description):
-    """What is wrong with the certificate of a job: nothing, so a copy of the bytes that were judged stands in right/; or the note; or None where
-    there is no certificate."""
+    """What is wrong with the certificate of a job: nothing, so a copy of the bytes that were judged
+    stands in right/; or the note; or None where there is no certificate."""
     kept = os.path.join(run, "right", name + ".cert")
     remove(kept)
     try:
@@ -158,7 +172,8 @@ def fault_of(run, name, words, description):
     os.remove(judged)
     note = note or f"check ended with {status}"
     sent = read_plain(os.path.join(run, "in", name), LONGEST_DESCRIPTION)
-    return note if program("show", description)[1] == sent else note + " (its file was changed since it was sent)"
+    is_as_sent = program("show", description)[1] == sent
+    return note if is_as_sent else note + " (its file was changed since it was sent)"
 
 
 def judge(jobs, run, at_once):
@@ -171,9 +186,12 @@ def judge(jobs, run, at_once):
     write(os.path.join(run, "refused"), "".join(name + "\n" for name in refused).encode())
     for word, names in (("refused", refused), ("missing", missing)):
         for name in names:
-            told = printable(read_plain(os.path.join(run, "out", name + ".status"), LONGEST_STATUS) or b"")
-            print(f"{word}: {name}", *([judged[name]] if word == "refused" else []), *([f"status {told}"] if told else []), sep=": ")
-    print(f"{len(jobs) - len(refused) - len(missing)} right, {len(refused)} refused, {len(missing)} missing")
+            told = printable(read_plain(os.path.join(run, "out", name + ".status"), LONGEST_STATUS)
+                             or b"")
+            print(f"{word}: {name}", *([judged[name]] if word == "refused" else []),
+                  *([f"status {told}"] if told else []), sep=": ")
+    right = len(jobs) - len(refused) - len(missing)
+    print(f"{right} right, {len(refused)} refused, {len(missing)} missing")
     sys.exit(1 if refused or missing else 0)
 
 
@@ -182,12 +200,14 @@ def main():
     signal.signal(signal.SIGPIPE, signal.SIG_DFL)
     word, rest = sys.argv[1] if len(sys.argv) > 1 else "", sys.argv[2:]
     if not os.access(PROGRAM, os.X_OK):
-        sys.exit(f"jobs.py: {PROGRAM}: there is no such program; ./matbench --version puts it there")
+        sys.exit(f"jobs.py: {PROGRAM}: there is no such program; "
+                 "./matbench --version puts it there")
     if word == "lay" and len(rest) == 2:
         lay(jobs_of(rest[0]), rest[1])
     elif word == "take" and len(rest) == 2:
         take(*rest)
-    elif word == "judge" and (len(rest) == 2 or len(rest) == 3 and re.fullmatch("[1-9][0-9]?", rest[2])):
+    elif word == "judge" and (len(rest) == 2 or len(rest) == 3
+                              and re.fullmatch("[1-9][0-9]?", rest[2])):
         judge(jobs_of(rest[0]), rest[1], int(rest[2]) if len(rest) == 3 else 1)
     else:
         sys.exit(__doc__)

@@ -6,6 +6,8 @@
 # it is told no name of a file, and names none. The script ends with the status of the program.
 set -u
 run=$1 program=$2 id=$3 words=$4
+# A folder whose name begins with `-` is no option.
+case $run in -*) run=./$run ;; esac
 host=${MANY_HOST:-}
 
 part=$(mktemp "$run/out/$id.part.XXXXXX") && note=$(mktemp "$run/out/$id.part.XXXXXX") || exit 71

@@ -9,6 +9,8 @@ set -u
 here=$(CDPATH='' cd -- "$(dirname -- "$0")" && pwd)
 [ "$#" -eq 2 ] || { sed -n '2,7s/^# \{0,1\}//p' "$0" >&2; exit 64; }
 run=$1 hosts=$2
+# A folder whose name begins with `-` is no option.
+case $run in -*) run=./$run ;; esac
 program=${MATBENCH:-$here/../../crates/mat_main/out/mat_main}
 
 # Sends the program to a host, starts it there, and prints how many processors the host says it has.

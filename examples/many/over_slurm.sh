@@ -10,6 +10,8 @@ set -u
 here=$(CDPATH='' cd -- "$(dirname -- "$0")" && pwd)
 [ "$#" -ge 2 ] || { sed -n '2,8s/^# \{0,1\}//p' "$0" >&2; exit 64; }
 run=$1 count=${3:-1} waiting='' failed=0
+# A folder whose name begins with `-` is no option.
+case $run in -*) run=./$run ;; esac
 program=${MATBENCH:-$here/../../crates/mat_main/out/mat_main}
 case $count in
 0* | *[!0-9]*) echo "over_slurm.sh: COUNT is a number from 1" >&2; exit 64 ;;

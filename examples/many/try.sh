@@ -54,6 +54,12 @@ wait_for() {
     done
 }
 
+# The addresses to which this machine listens on a port and the next one, as Linux has them: listening PORT
+listening() {
+    awk -v "ports=^($(printf '%04X|%04X' "$1" "$(($1 + 1))"))$" '
+        $4 == "0A" { split($2, it, ":"); if (it[2] ~ ports) { found = found sep it[1]; sep = " " } } END { print found }' /proc/net/tcp /proc/net/tcp6
+}
+
 lay() { python3 "$here/jobs.py" lay "$folder/list" "$1"; }
 spread() { sh "$here/over_parallel.sh" "$1" "$2" 2>&1; }
 judge() { python3 "$here/jobs.py" judge "$folder/list" "$1" 4; }
@@ -107,9 +113,14 @@ try_alone() {
         sh "$here/one.sh" "$folder/alone" "$program" "$id" "$words" </dev/null
     done <"$folder/alone/todo"
     expect "one job after the other, on this machine" "20 right, 0 refused, 0 missing" "$(judge "$folder/alone" | last)"
+    (cd "$folder" && lay -run >/dev/null && head -n 1 ./-run/todo | while IFS=$(printf '\t') read -r id words; do
+        sh "$here/one.sh" -run "$program" "$id" "$words" </dev/null
+    done)
+    expect "one job of a folder whose name begins with -" "1 right, 0 refused, 19 missing" "$(judge "$folder/-run" | last)"
 }
 
 try_this_machine() {
+    expect "a folder whose name begins with -" "19 jobs ran, 0 failed" "$(cd "$folder" && lay -run >/dev/null && spread -run hosts | last)"
     expect "the whole script" "20 right, 0 refused, 0 missing" "$(sh "$here/whole.sh" "$folder/whole" parallel 20 40 2>&1 | last)"
     lay "$folder/killed" >/dev/null
     touch "$folder/trap.1" "$folder/trap.2"
@@ -344,6 +355,7 @@ try_killed_task() {
     expect "the whole script" "20 right, 0 refused, 0 missing" "$(sh "$here/whole.sh" "$folder/whole_slurm" slurm 20 40 2>&1 | last)"
     sh "$here/slurm_here.sh" start "$folder/slurm" >/dev/null
     export SLURM_CONF="$folder/slurm/slurm.conf"
+    expect "Slurm listens to this machine alone" "0100007F 0100007F" "$(listening "${MANY_PORT:-16817}")"
     lay "$folder/slurm.run" >/dev/null
     mkdir -p "$folder/nodes"
     MATBENCH=$folder/slow sh "$here/over_slurm.sh" "$folder/slurm.run" "$folder/nodes" &
@@ -353,7 +365,9 @@ try_killed_task() {
     wait "$spreading"
     expect "a task is killed, and its job is missing" "19 right, 0 refused, 1 missing" "$(judge "$folder/slurm.run" | last)"
     expect "it alone is to be done" "1 to do, 19 there, 0 not sent" "$(lay "$folder/slurm.run")"
-    (cd "$folder" && sh "$here/over_slurm.sh" slurm.run nodes)
+    mv "$folder/slurm.run" "$folder/-slurm.run"
+    (cd "$folder" && sh "$here/over_slurm.sh" -slurm.run nodes)
+    mv "$folder/-slurm.run" "$folder/slurm.run"
     expect "and all is right, with folders named from this one" "20 right, 0 refused, 0 missing" "$(judge "$folder/slurm.run" | last)"
 
 }
