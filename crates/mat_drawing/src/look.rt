@@ -1,6 +1,6 @@
 //! How texts and shapes look.
 
-ghost use Rattle.std.specs.Prelude.{◌≡◌, Some, OnOk};
+ghost use Rattle.std.specs.{Prelude.{◌≡◌, true, Some, OnOk}, Option.{is_some}};
 ghost use Rattle.mat_drawing.specs.declared.values.Fill.TheVariants as fills;
 ghost use Rattle.mat_drawing.specs.{Attributes.{colour_names, letter_names, line_names, look_names}, Markup.{AddsAttributes}};
 
@@ -61,7 +61,9 @@ impl Look {
     }
 
     /// All bytes of texts are equally wide.
-    pub fn monospace(self) -> Look {
+    pub fn monospace(self) -> Look
+        ensures { is_some result.font_family ≡ true }
+    {
         Look {
             font_family: Some("monospace"),
             ..self
@@ -109,7 +111,9 @@ impl Look {
     }
 
     /// What is behind it is seen a little through what fills it.
-    pub fn translucent(self) -> Look {
+    pub fn translucent(self) -> Look
+        ensures { is_some result.opacity ≡ true }
+    {
         Look {
             opacity: Some("0.85"),
             ..self
@@ -147,7 +151,10 @@ impl Look {
     }
 
     /// Lines are round where they meet and where they end.
-    pub fn round(self) -> Look {
+    pub fn round(self) -> Look
+        ensures joins { is_some result.joins ≡ true }
+        ensures ends { is_some result.ends ≡ true }
+    {
         Look {
             joins: Some("round"),
             ends: Some("round"),
@@ -166,7 +173,9 @@ impl Look {
     }
 
     /// Texts are bold.
-    pub fn bold(self) -> Look {
+    pub fn bold(self) -> Look
+        ensures { is_some result.font_weight ≡ true }
+    {
         Look {
             font_weight: Some("bold"),
             ..self
