@@ -3,7 +3,7 @@
 ghost use Rattle.std.specs.Prelude.{◌≡◌, ◌≤◌, ℕ, List, map, string_bytes};
 ghost use Rattle.mat_report.specs.{Pictures.{is_picture}, TellsInWords.{tells_in_words}};
 ghost use Rattle.mat_program.specs.{
-  Tasks.{program_task},
+  Tasks.{program_task, print},
   Traces.{shelf_trace, sink_trace},
   Ends.{IsReported, IsCalled, IsPerformed},
 };
@@ -60,6 +60,7 @@ fn called<R: TopWorkers, F: Shelf, O: Sink, N: Sink>(
     ensures held { (name : List ℕ) → F.held files.new name ≡ F.held files.old name }
     ensures grows { (name : List ℕ) → F.faults files.old name ≤ F.faults files.new name }
     ensures out_grows { O.faults out.old ≤ O.faults out.new }
+    ensures unopened { result ≡ Status.Usage → files.new ≡ files.old }
     ensures called { IsCalled (map string_bytes words.now)
         (shelf_trace (F.held files.old) (F.faults files.old) (F.faults files.new))
         (sink_trace (O.written out.old) (O.faults out.old) (O.written out.new) (O.faults out.new))
@@ -90,6 +91,11 @@ pub fn perform<R: TopWorkers, F: Shelf, O: Sink, N: Sink>(
     ensures held { (name : List ℕ) → F.held files.new name ≡ F.held files.old name }
     ensures grows { (name : List ℕ) → F.faults files.old name ≤ F.faults files.new name }
     ensures out_grows { O.faults out.old ≤ O.faults out.new }
+
+    // No file is opened where the words are no command, and where they ask for a text; nor is a note written there.
+    ensures unopened { result ≡ Status.Usage → files.new ≡ files.old }
+    ensures text_alone { (text : List ℕ) → program_task texts.now.help.now texts.now.version.now (map string_bytes words.now) ≡ print text
+        → (files.new ≡ files.old) × (notes.new ≡ notes.old) }
 
     // What the words ask for is done.
     ensures performed { IsPerformed (program_task texts.now.help.now texts.now.version.now (map string_bytes words.now))
