@@ -1,7 +1,8 @@
 //! How texts and shapes look.
 
-ghost use Rattle.std.specs.{Prelude.{◌≡◌, true, Some, OnOk}, Option.{is_some}};
+ghost use Rattle.std.specs.Prelude.{◌≡◌, Some, OnOk};
 ghost use Rattle.mat_drawing.specs.declared.values.Fill.TheVariants as fills;
+ghost use Rattle.mat_drawing.specs.declared.values.Keyword.TheVariants as keywords;
 ghost use Rattle.mat_drawing.specs.{Attributes.{colour_names, letter_names, line_names, look_names}, Markup.{AddsAttributes}};
 
 use crate::attributes::put;
@@ -9,25 +10,25 @@ use crate::colour::Colour;
 use crate::dash::Dash;
 use crate::point::Point;
 use crate::units::Units;
-use crate::values::{Anchor, ArrowEnd, Fill, Turn};
+use crate::values::{Anchor, ArrowEnd, Fill, Keyword, Turn};
 use std::alloc::{AllocError, Global};
 
 /// How a text, a shape or a group of these looks. What is set twice is as it was set last.
 #[derive(Clone, Copy)]
 pub struct Look {
     lower: Option<Units>,
-    font_family: Option<&'static str>,
+    font_family: Option<Keyword>,
     font_size: Option<Units>,
     anchor: Option<Anchor>,
     fill: Option<Fill>,
-    opacity: Option<&'static str>,
+    opacity: Option<Keyword>,
     stroke: Option<Colour>,
     stroke_width: Option<Units>,
     dashes: Option<Dash>,
-    joins: Option<&'static str>,
-    ends: Option<&'static str>,
+    joins: Option<Keyword>,
+    ends: Option<Keyword>,
     arrow: Option<ArrowEnd>,
-    font_weight: Option<&'static str>,
+    font_weight: Option<Keyword>,
     turn: Option<Turn>,
 }
 
@@ -62,10 +63,10 @@ impl Look {
 
     /// All bytes of texts are equally wide.
     pub fn monospace(self) -> Look
-        ensures { is_some result.font_family ≡ true }
+        ensures { result.font_family ≡ Some keywords.Monospace }
     {
         Look {
-            font_family: Some("monospace"),
+            font_family: Some(Keyword::Monospace),
             ..self
         }
     }
@@ -112,10 +113,10 @@ impl Look {
 
     /// What is behind it is seen a little through what fills it.
     pub fn translucent(self) -> Look
-        ensures { is_some result.opacity ≡ true }
+        ensures { result.opacity ≡ Some keywords.Translucent }
     {
         Look {
-            opacity: Some("0.85"),
+            opacity: Some(Keyword::Translucent),
             ..self
         }
     }
@@ -152,12 +153,12 @@ impl Look {
 
     /// Lines are round where they meet and where they end.
     pub fn round(self) -> Look
-        ensures joins { is_some result.joins ≡ true }
-        ensures ends { is_some result.ends ≡ true }
+        ensures joins { result.joins ≡ Some keywords.Round }
+        ensures ends { result.ends ≡ Some keywords.Round }
     {
         Look {
-            joins: Some("round"),
-            ends: Some("round"),
+            joins: Some(Keyword::Round),
+            ends: Some(Keyword::Round),
             ..self
         }
     }
@@ -174,10 +175,10 @@ impl Look {
 
     /// Texts are bold.
     pub fn bold(self) -> Look
-        ensures { is_some result.font_weight ≡ true }
+        ensures { result.font_weight ≡ Some keywords.Bold }
     {
         Look {
-            font_weight: Some("bold"),
+            font_weight: Some(Keyword::Bold),
             ..self
         }
     }

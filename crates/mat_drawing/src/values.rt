@@ -26,6 +26,30 @@ impl fmt::Display for Anchor {
     }
 }
 
+/// A word that is the value of an attribute.
+#[derive(Clone, Copy)]
+pub(crate) enum Keyword {
+    /// All bytes of texts are equally wide.
+    Monospace,
+    /// What is behind is seen a little.
+    Translucent,
+    /// Lines are round where they meet or end.
+    Round,
+    /// Texts are bold.
+    Bold,
+}
+
+impl fmt::Display for Keyword {
+    fn fmt<W: fmt::Write>(&self, f: &mut fmt::Formatter<W>) -> fmt::Result {
+        f.write_str(match self {
+            Keyword::Monospace => "monospace",
+            Keyword::Translucent => "0.85",
+            Keyword::Round => "round",
+            Keyword::Bold => "bold",
+        })
+    }
+}
+
 /// What fills a shape or a text.
 #[derive(Clone, Copy)]
 pub(crate) enum Fill {
