@@ -2,8 +2,8 @@
 """Runs the worst inputs at each limit: `worst.py [PROGRAM]`, at the top of the repository.
 
 Prints for each a line of a table: the command, how it ended, the seconds on the clock and the peak
-memory. The aims are five seconds and 200 MB. The program is crates/mat_main/out/mat_main where none
-is named.
+memory, and those of `check`, `--tell` and `--picture` of its answer. The program is
+crates/mat_main/out/mat_main where none is named.
 """
 import os
 import random
@@ -24,9 +24,14 @@ def weights(numbers, n=N):
     return line('weights', *(numbers.randint(-10 ** 12, 10 ** 12) for _ in range(n)))
 
 
-def graphic(numbers):
-    ends = [(numbers.randrange(N // 2), numbers.randrange(N // 2)) for _ in range(N)]
-    return [f'graphic {N // 2}'] + [line('edge', *both) for both in ends]
+def graph_on(vertices):
+    def lines(numbers):
+        ends = [(numbers.randrange(vertices), numbers.randrange(vertices)) for _ in range(N)]
+        return [f'graphic {vertices}'] + [line('edge', *both) for both in ends]
+    return lines
+
+
+graphic = graph_on(N // 2)
 
 
 def transversal(numbers):
@@ -64,10 +69,18 @@ def wrapped(names, inner):
     return lines
 
 
-def union(count, inner):
+def union_of(*parts):
     def lines(numbers):
-        return [f'union {count}'] + [text for _ in range(count) for text in inner(numbers)]
+        return [f'union {len(parts)}'] + [text for part in parts for text in part(numbers)]
     return lines
+
+
+def union(count, inner):
+    return union_of(*[inner] * count)
+
+
+def dual(inner):
+    return lambda numbers: ['dual'] + inner(numbers)
 
 
 def uniform(cap):
@@ -107,8 +120,12 @@ def pairs():
     yield ('the union of two graphs, against the union of two others',
            union(2, graphic), union(2, graphic))
     yield 'the union of two gammoids, against a partition', union(2, gammoid), partition
-    yield ('the dual of a union of four graphs, against a graph',
-           lambda numbers: ['dual'] + union(4, graphic)(numbers), graphic)
+    yield 'the dual of a union of four graphs, against a graph', dual(union(4, graphic)), graphic
+    dense = graph_on(N // 5)
+    yield ('the dual of a union of two graphs on 100 vertices, against a partition',
+           dual(union(2, dense)), partition)
+    yield ('the dual of a union with the dual of a union of such a graph, against a partition',
+           dual(union_of(uniform(20), dual(union_of(dense, uniform(30))))), partition)
     yield ('the union of 64 unions of 64 uniform matroids, against a partition',
            union(64, union(64, uniform(1))), partition)
     crowded = union(64, lambda numbers: ['partition 1', line('class', 1, *range(300))])
@@ -148,24 +165,39 @@ def refused():
         yield f'a certificate of 64 MB: {name}', 'check f c', free, text[:CERTIFICATE_LIMIT]
 
 
+def measured(program, folder):
+    """A line of a table for each description: how its command and each judging of its answer
+    ended, the seconds of each, and the most memory."""
+    print('| input | command | ends | seconds | `check` | `--tell` | `--picture` | most MB |')
+    print('|---|---|---|---|---|---|---|---|')
+    for name, command, text in solved():
+        saved(folder, 'f', text)
+        runs = [once(program, [command, 'f'], folder)]
+        saved(folder, 'c', runs[0][1])
+        runs += [once(program, [judging, 'f', 'c'], folder)
+                 for judging in ('check', '--tell', '--picture')]
+        ends = ' '.join(str(end) for end in sorted({status for status, _, _, _ in runs}))
+        seconds = ' | '.join(f'{took:.2f}' for _, _, took, _ in runs)
+        memory = max(peak for _, _, _, peak in runs)
+        print(f'| {name} | `{command}` | {ends} | {seconds} | {memory:.0f} |', flush=True)
+
+
+def measured_refusals(program, folder):
+    """A line of a table for each text that is refused."""
+    print('\n| refused text | command | ends | seconds | MB |\n|---|---|---|---|---|')
+    for name, words, text, certificate in refused():
+        saved(folder, 'f', text)
+        saved(folder, 'c', certificate)
+        status, _, seconds, memory = once(program, words.split(), folder)
+        print(f'| {name} | `{words.split()[0]}` | {status} | {seconds:.2f} | {memory:.0f} |',
+              flush=True)
+
+
 def main():
     program = os.path.abspath(sys.argv[1] if len(sys.argv) > 1 else 'crates/mat_main/out/mat_main')
-    print('| input | command | status | seconds | MB |\n|---|---|---|---|---|')
     with tempfile.TemporaryDirectory() as folder:
-        for name, command, text in solved():
-            saved(folder, 'f', text)
-            status, answer, seconds, memory = once(program, [command, 'f'], folder)
-            print(f'| {name} | `{command}` | {status} | {seconds:.2f} | {memory:.0f} |', flush=True)
-            saved(folder, 'c', answer)
-            for judging in ('check', '--tell', '--picture'):
-                status, _, seconds, memory = once(program, [judging, 'f', 'c'], folder)
-                print(f'| | `{judging}` | {status} | {seconds:.2f} | {memory:.0f} |', flush=True)
-        for name, words, text, certificate in refused():
-            saved(folder, 'f', text)
-            saved(folder, 'c', certificate)
-            status, _, seconds, memory = once(program, words.split(), folder)
-            print(f'| {name} | `{words.split()[0]}` | {status} | {seconds:.2f} | {memory:.0f} |',
-                  flush=True)
+        measured(program, folder)
+        measured_refusals(program, folder)
 
 
 if __name__ == '__main__':
