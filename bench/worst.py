@@ -69,14 +69,10 @@ def wrapped(names, inner):
     return lines
 
 
-def union_of(*parts):
-    def lines(numbers):
-        return [f'union {len(parts)}'] + [text for part in parts for text in part(numbers)]
-    return lines
-
-
 def union(count, inner):
-    return union_of(*[inner] * count)
+    def lines(numbers):
+        return [f'union {count}'] + [text for _ in range(count) for text in inner(numbers)]
+    return lines
 
 
 def dual(inner):
@@ -124,8 +120,6 @@ def pairs():
     dense = graph_on(N // 5)
     yield ('the dual of a union of two graphs on 100 vertices, against a partition',
            dual(union(2, dense)), partition)
-    yield ('the dual of a union with the dual of a union of such a graph, against a partition',
-           dual(union_of(uniform(20), dual(union_of(dense, uniform(30))))), partition)
     yield ('the union of 64 unions of 64 uniform matroids, against a partition',
            union(64, union(64, uniform(1))), partition)
     crowded = union(64, lambda numbers: ['partition 1', line('class', 1, *range(300))])
