@@ -598,9 +598,9 @@ class Use(Page):
 class BadUse(Page):
     """What bad use gets."""
 
-    def run_in_page(self, words, limits):
+    def run_in_page(self, words, limits, files=None):
         """How a run within these limits ends, or what it fails with."""
-        given = f"{json.dumps(words)}, {{}}, {json.dumps(limits)}"
+        given = f"{json.dumps(words)}, {json.dumps(files or {})}, {json.dumps(limits)}"
         return self.browser.run(f"""import("./run.mjs").then(({{ Run }}) => new Run({given}).ended)
             .catch((it) => it.message)""")
 
@@ -611,10 +611,13 @@ class BadUse(Page):
         self.assertTrue(self.text("#description-fault").startswith("The text is too long"))
 
     def test_no_memory_is_told(self):
-        sample = ["sample", "pair", "500", "1"]
-        ended = self.run_in_page(sample, {"memory": 46_000_000, "room": 24_000_000})
+        weights = " ".join(str(weight) for weight in range(500))
+        free = f"matroids 1\npair 500\nweights {weights}\nuniform 500\nuniform 500\nend\n"
+        ended = self.run_in_page(["intersect", "f"], {"memory": 46_000_000, "room": 24_000_000},
+                                 {"f": free})
         self.assertEqual((ended["status"], ended["note"], ended["output"]),
                          (7, "refused: memory", ""))
+        sample = ["sample", "pair", "500", "1"]
         self.assertEqual(self.run_in_page(sample, {"memory": 20_000_000}), "memory")
         self.assertEqual(self.run_in_page(sample, {})["status"], 0)
 
