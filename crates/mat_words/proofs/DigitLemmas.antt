@@ -55,6 +55,13 @@ digit_fits n d i small few digit =
     let most : 10 ^ i ≤ 10 ^ 17 = rw whole at (power_up i (17 - i)) in
     (rw one (omega (arith, small)), omega (arith, small, most))
 
+-- at most 18 digits are below 10 ^ 18
+pub short_value : (n i : ℕ) → n < 10 ^ i → i ≤ 18 → n < 10 ^ 18
+short_value n i small few =
+    let whole : i + (18 - i) ≡ 18 = omega arith in
+    let most : 10 ^ i ≤ 10 ^ 18 = rw whole at (power_up i (18 - i)) in
+    omega (arith, small, most)
+
 pub counted_short : (cs : List ℕ) (i n : ℕ) → length cs ≤ i → 0 < length cs → 49 ≤ get_or cs 0 0 → n ≡ value_of (take i cs) → 0 < n
 counted_short cs i n past some first e =
     let whole : n ≡ value_of cs = e ∙ ap value_of (take_all i cs past) in
@@ -88,7 +95,7 @@ room_left left (suc (suc k)) some small =
     rw (one, two) (omega arith, omega (arith, wide))
 
 -- the digits of a number are those of its tenth and its last digit
-decimal_step : (left : ℕ) → 0 < left → decimal left ≡ decimal (left / 10) ++ (48 + left % 10) ∷ []
+pub decimal_step : (left : ℕ) → 0 < left → decimal left ≡ decimal (left / 10) ++ (48 + left % 10) ∷ []
 decimal_step left some = ap (map (λ d. 48 + d)) (digits_of_step 10 left (omega arith) some)
     ∙ map_push (λ d. 48 + d) (digits_of 10 (left / 10)) (left % 10)
 

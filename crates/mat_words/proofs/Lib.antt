@@ -3,6 +3,7 @@ pub mod LineLemmas
 pub mod WordLemmas
 pub mod DigitLemmas
 pub mod NumberLemmas
+pub mod ShortNumbers
 pub mod WeightLemmas
 pub mod WrittenLines
 pub mod ReadingSteps

@@ -25,7 +25,7 @@ digit_bytes ds = map (λ d. 48 + d) ds
 digit_bounds : (c : ℕ) → is_digit c ≡ true → (48 ≤ c) × (c ≤ 57)
 digit_bounds c h = let p = and_parts (leb 48 c) (leb c 57) h in (leb-true 48 c p.0, leb-true c 57 p.1)
 
-digit_at : (cs : List ℕ) (i : ℕ) → list_all is_digit cs ≡ true → i < length cs → (48 ≤ get_or cs i 0) × (get_or cs i 0 ≤ 57)
+pub digit_at : (cs : List ℕ) (i : ℕ) → list_all is_digit cs ≡ true → i < length cs → (48 ≤ get_or cs i 0) × (get_or cs i 0 ≤ 57)
 digit_at [] i all lt = absurd (omega arith)
 digit_at (c ∷ cs) zero all lt = digit_bounds c (and_parts (is_digit c) (list_all is_digit cs) all).0
 digit_at (c ∷ cs) (suc i) all lt = digit_at cs i (and_parts (is_digit c) (list_all is_digit cs) all).1 (omega arith)
@@ -92,7 +92,7 @@ digits_again n some = (
 )
 
 -- the numeral of a number above 0, and of one below
-numeral_pos : (v : ℕ) → 0 < v → numeral (pos v) ≡ decimal v
+pub numeral_pos : (v : ℕ) → 0 < v → numeral (pos v) ≡ decimal v
 numeral_pos zero some = absurd (omega arith)
 numeral_pos (suc v) some = refl
 

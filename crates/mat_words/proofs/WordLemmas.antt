@@ -1,13 +1,13 @@
 -- The words of a line: the test of a well spaced line as one walk from left to right, the sentence that it decides, and lines that are
 -- joined from words. The walk's state says whether a word is to begin at the next byte.
 use Rattle.std.proofs.Common.{◌≡◌, ◌≢◌, ℕ, zero, suc, ◌+◌, ◌-◌, ◌<◌, ◌≤◌, Bool, true, false}
-use Rattle.std.proofs.Common.{◌&&◌, not, cond, eqb, leb, List, [], ◌∷◌, ◌++◌, length, get_or, drop, refl, sym, ap}
+use Rattle.std.proofs.Common.{◌&&◌, not, cond, eqb, leb, List, [], ◌∷◌, ◌++◌, length, get_or, take, drop, refl, sym, ap}
 use Rattle.std.proofs.Common.{subst, inl, inr, ◌∙◌, arith, zero-add, Option, Some, None}
 use Rattle.std.specs.List.{onto_first, list_all, join_with_byte, AllByRecursion, slice_get}
 use Rattle.std.specs.Option.{MatchOption}
 use Rattle.std.proofs.lemmas.Bool.{ne_eqb, eq-eqb, cases_eq, and_parts, and_from, leb-true, le-leb}
 use Rattle.std.proofs.lemmas.Grind.{common_steps}
-use Rattle.std.proofs.lemmas.List.{drop_more, drop_all}
+use Rattle.std.proofs.lemmas.List.{drop_more, drop_all, take_more, append_assoc, append-nil, length-take}
 use Rattle.std.proofs.lemmas.List.Elements.{All-from_recursion}
 use Rattle.std.proofs.lemmas.List.Splits.{slice_split_none, slice_split_at, join_with_byte-slice_split}
 use Rattle.mat_words.specs.Lines.{HasNoNewline}
@@ -85,6 +85,42 @@ at_line_end (b ∷ bs) i true le so_far =
 at_line_end (b ∷ bs) i false le so_far =
     let one : spaced_from false (drop i (b ∷ bs)) ≡ true = rw (drop_all i (b ∷ bs) le) refl in
     sym one ∙ so_far ∙ well_spaced_is (b ∷ bs) (omega arith)
+
+-- ---- the walk along a text, whose lines are not cut yet
+
+-- the walk has come to place i of the text, whatever the line holds behind it
+abbrev pub IsWalked : List ℕ → ℕ → Bool → Type 0
+IsWalked text i start = (rest : List ℕ) → spaced_from true (take i text ++ rest) ≡ spaced_from start rest
+
+-- the walk goes on by one byte as it goes on from that byte
+walk_on : (text : List ℕ) (i : ℕ) (start next : Bool) → i < length text → IsWalked text i start
+    → ((rest : List ℕ) → spaced_from start (get_or text i 0 ∷ rest) ≡ spaced_from next rest) → IsWalked text (i + 1) next
+walk_on text i start next lt so_far step rest =
+    ap (λ (front : List ℕ). spaced_from true (front ++ rest)) (take_more text i 0 lt)
+    ∙ ap (spaced_from true) (append_assoc (take i text) (get_or text i 0 ∷ []) rest) ∙ so_far (get_or text i 0 ∷ rest) ∙ step rest
+
+-- over a byte of a word
+pub walk_letter : (text : List ℕ) (i : ℕ) (start : Bool) → i < length text → is_letter (get_or text i 0) ≡ true → IsWalked text i start
+    → IsWalked text (i + 1) false
+walk_letter text i start lt letter so_far =
+    let low : 33 ≤ get_or text i 0 = leb-true 33 (get_or text i 0) (and_parts (leb 33 (get_or text i 0)) (leb (get_or text i 0) 126) letter).0 in
+    let apart : eqb (get_or text i 0) 32 ≡ false = ne_eqb (get_or text i 0) 32 (λ e. omega arith) in
+    walk_on text i start false lt so_far (λ rest. rw (apart, letter) refl)
+
+-- over a space behind a word
+pub walk_space : (text : List ℕ) (i : ℕ) → i < length text → get_or text i 0 ≡ 32 → IsWalked text i false → IsWalked text (i + 1) true
+walk_space text i lt space so_far = walk_on text i false true lt so_far (λ rest. rw space refl)
+
+-- where a word ends, what was walked over is a well spaced line that isn't empty
+pub walk_ends : (text : List ℕ) (i : ℕ) → IsWalked text i false → (is_well_spaced (take i text) ≡ true) × (0 < i)
+walk_ends text i so_far =
+    let walked : spaced_from true (take i text) ≡ true = ap (spaced_from true) (sym (append-nil (take i text))) ∙ so_far [] in
+    let line = some_line (take i text) walked in
+    (line.0, omega (arith, line.1, length-take i text))
+  where
+    some_line : (line : List ℕ) → spaced_from true line ≡ true → (is_well_spaced line ≡ true) × (0 < length line)
+    some_line [] h = absurd cc
+    some_line (b ∷ bs) h = (sym (well_spaced_is (b ∷ bs) (omega arith)) ∙ h, omega arith)
 
 -- ---- words that are joined
 

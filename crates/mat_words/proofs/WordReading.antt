@@ -214,6 +214,16 @@ unfolding weight_at
 weight_at_again low high n weight words valid =
     item_again (weight_in low high) n (weight_word weight) weight words (weight_again low high weight valid)
 
+-- a number that is read is a weight without a tie
+pub untied_found : (low high : ℤ) (w : WordsLeft) (z : ℤ) (q : WordsLeft) → low ≤ℤ pos 0 → pos 0 ≤ℤ high
+    → number_at low high w ≡ Ok (z, q) → weight_at low high w ≡ Ok (record { main = z; tie = pos 0 }, q)
+untied_found low high w z q least most e =
+    let read = number_found low high w z q e in
+    let weight : Weight = record { main = z; tie = pos 0 } in
+    ap (λ (words : List (List ℕ)). weight_at low high (record { line = w.line; words = words })) read.cut
+    ∙ weight_at_again low high w.line weight q.words ((read.least, read.most), (least, most))
+    ∙ ap (λ (n : ℕ). Ok (weight, record { line = n; words = q.words })) (sym read.line)
+
 -- as many words were read as weights
 pub record AreWeightsRead (low high : ℤ) (many : ℕ) (w : WordsLeft) (weights : List Weight) (q : WordsLeft) : Type 0 where
   pub cut : w.words ≡ map weight_word weights ++ q.words

@@ -17,6 +17,7 @@ mod names;
 mod numbers;
 mod reading;
 mod refusal;
+mod short_numbers;
 mod text_word;
 mod weights;
 mod words;

@@ -1,26 +1,44 @@
 //! Reading a text line by line and word by word. What is read comes with what is left behind it, and the first fault ends the reading.
 
-ghost use Rattle.std.specs.Prelude.{◌≡◌, ◌<◌, ◌≤◌, ◌≤ℤ◌, ◌^◌, IfOk};
+ghost use Rattle.std.specs.Prelude.{◌≡◌, ◌<◌, ◌≤◌, ◌≤ℤ◌, ◌+◌, ◌^◌, length, IfOk, IfSome, Ok};
 ghost use Rattle.mat_words.specs.{
   Cursors.{lines_left, words_left},
+  Lines.{lines_of},
+  Words.{parts_of},
   Reading.{Gives, IsTold, line_at, word_at, number_at, size_at, below_at, binary_at, weight_at, weights_at, keyed_at, is_closed},
 };
 
 use crate::binary::read_binary;
 use crate::cursor::{LineCursor, WordCursor};
-use crate::lines::split_line;
+use crate::lines::{spaced_line, split_line};
 use crate::numbers::read_number;
 use crate::refusal::{ReadingFault, Refusal, fault};
+use crate::short_numbers::short_number;
 use crate::weights::read_weight;
 use crate::words::{split_word, well_spaced};
 use mat_sets::Weight;
 use std::alloc::Global;
 
-/// The words of the next line, and the lines behind it. [`ReadingFault::EndsEarly`] where no byte 10 is left, [`ReadingFault::BadByte`]
-/// where the line isn't well spaced, and [`ReadingFault::NoWord`] where it is empty. It takes no memory, as all calls here but
-/// `next_weights`.
+// The words of a line with this number, which has words and is well spaced, and the lines behind it.
+fn line_read<'a>(line: u32, content: &'a [u8], rest: &'a [u8]) -> (WordCursor<'a>, LineCursor<'a>)
+    requires room { line + 1 + length rest.now < 2 ^ 32 }
+    ensures words { words_left result.0 ≡ record { line = line; words = parts_of content.now } }
+    ensures lines { lines_left result.1 ≡ record { line = line + 1; lines = lines_of rest.now } }
+{
+    let words = WordCursor {
+        line,
+        left: Some(content),
+    };
+    let lines = LineCursor {
+        line: line + 1,
+        text: rest,
+    };
+    (words, lines)
+}
+
+// What [`words_line`] gives, where the end of the line is looked for first, and then its spacing.
 #[tactic(auto, unfolding(crate::specs::Reading::line_at))]
-pub fn words_line<'a>(
+fn checked_line<'a>(
     lines: LineCursor<'a>,
 ) -> Result<(WordCursor<'a>, LineCursor<'a>), Refusal<ReadingFault>>
     ensures value { Gives (λ x. (words_left x.0, lines_left x.1)) result (line_at (lines_left lines.entry)) }
@@ -36,15 +54,23 @@ pub fn words_line<'a>(
     if content.is_empty() {
         return Err(fault(ReadingFault::NoWord, line));
     }
-    let words = WordCursor {
-        line,
-        left: Some(content),
+    Ok(line_read(line, content, rest))
+}
+
+/// The words of the next line, and the lines behind it. [`ReadingFault::EndsEarly`] where no byte 10 is left, [`ReadingFault::BadByte`]
+/// where the line isn't well spaced, and [`ReadingFault::NoWord`] where it is empty. It goes over the line once, and again only where
+/// there is a fault. It takes no memory, as all calls here but `next_weights`.
+#[tactic(auto, unfolding(crate::specs::Reading::line_at))]
+pub fn words_line<'a>(
+    lines: LineCursor<'a>,
+) -> Result<(WordCursor<'a>, LineCursor<'a>), Refusal<ReadingFault>>
+    ensures value { Gives (λ x. (words_left x.0, lines_left x.1)) result (line_at (lines_left lines.entry)) }
+    ensures told { IsTold result }
+{
+    let Some((content, rest)) = spaced_line(lines.text) else {
+        return checked_line(lines);
     };
-    let lines = LineCursor {
-        line: line + 1,
-        text: rest,
-    };
-    Ok((words, lines))
+    Ok(line_read(lines.line, content, rest))
 }
 
 /// Whether nothing is left of a text: no line, and no byte behind the last.
@@ -71,6 +97,19 @@ pub fn next_word<'a>(
     Ok((word, WordCursor { line, left }))
 }
 
+// The next word of a line as a number in `low..=high`, in one pass: None where it is none, or one of more than 18 digits.
+fn next_short<'a>(words: WordCursor<'a>, low: i128, high: i128) -> Option<(i128, WordCursor<'a>)>
+    ensures value { IfSome result (λ x. number_at low high (words_left words.entry) ≡ Ok (x.0, words_left x.1)) }
+    ensures range { IfSome result (λ x. (low ≤ℤ x.0) × (x.0 ≤ℤ high)) }
+{
+    let (number, left) = short_number(words.left?)?;
+    if number < low || high < number {
+        return None;
+    }
+    let line = words.line;
+    Some((number, WordCursor { line, left }))
+}
+
 /// The next word of a line as a number in `low..=high`. [`ReadingFault::NoWord`] where none is left, and [`ReadingFault::Number`] where it
 /// is no number or one out of range.
 #[tactic(auto, unfolding(crate::specs::Reading::number_at))]
@@ -83,6 +122,9 @@ pub fn next_number<'a>(
     ensures range { IfOk result (λ x. (low ≤ℤ x.0) × (x.0 ≤ℤ high)) }
     ensures told { IsTold result }
 {
+    if let Some(read) = next_short(words, low, high) {
+        return Ok(read);
+    }
     let (word, rest) = next_word(words)?;
     match read_number(word, low, high) {
         Ok(number) => Ok((number, rest)),
@@ -140,6 +182,18 @@ pub fn next_binary<'a>(
     }
 }
 
+// The next word of a line as a weight without a tie of which each number is in `low..=high`, in one pass: None where it is none, or one
+// of more than 18 digits.
+fn next_untied<'a>(words: WordCursor<'a>, low: i128, high: i128) -> Option<(Weight, WordCursor<'a>)>
+    ensures { IfSome result (λ x. weight_at low high (words_left words.entry) ≡ Ok (x.0, words_left x.1)) }
+{
+    if low > 0 || high < 0 {
+        return None;
+    }
+    let (main, rest) = next_short(words, low, high)?;
+    Some((Weight { main, tie: 0 }, rest))
+}
+
 /// The next word of a line as a weight of which each number is in `low..=high`. [`ReadingFault::NoWord`] where none is left, and
 /// [`ReadingFault::Number`] where it is no weight or one with a number out of range.
 #[tactic(auto, unfolding(crate::specs::Reading::weight_at))]
@@ -151,6 +205,9 @@ pub fn next_weight<'a>(
     ensures value { Gives (λ x. (x.0, words_left x.1)) result (weight_at low high (words_left words.entry)) }
     ensures told { IsTold result }
 {
+    if let Some(read) = next_untied(words, low, high) {
+        return Ok(read);
+    }
     let (word, rest) = next_word(words)?;
     match read_weight(word, low, high) {
         Ok(weight) => Ok((weight, rest)),
