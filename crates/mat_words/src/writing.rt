@@ -1,6 +1,6 @@
 //! Writing lines word by word.
 
-ghost use Rattle.std.specs.Prelude.{◌≡◌, ◌++◌, ◌∷◌, [], OnErr, OnOk, length, take};
+ghost use Rattle.std.specs.Prelude.{◌≡◌, ◌<◌, ◌++◌, ◌∷◌, [], OnErr, OnOk, length, take, pos};
 ghost use Rattle.mat_words.specs.{
   Lines.{text_of},
   Numbers.{numeral},
@@ -13,11 +13,34 @@ use crate::weights::put_weight;
 use mat_sets::Weight;
 use std::alloc::AllocError;
 
-/// Appends a number as the next word of a line, behind a space. After an AllocError `out` is as before.
+// Appends a number below 1000 as the next word of a line, behind a space, as one piece. After an AllocError `out` is as before.
+fn put_small_word(out: &mut Vec<u8>, number: u32) -> Result<(), AllocError>
+    requires { number < 1000 }
+    ensures ok { OnOk result (out.new.items ≡ out.old.items ++ 32 ∷ numeral (pos number)) }
+    ensures err { OnErr result (out.new.items ≡ out.old.items) }
+{
+    let ones = b'0' + (number % 10) as u8;
+    let tens = b'0' + (number / 10 % 10) as u8;
+    let hundreds = b'0' + (number / 100) as u8;
+    if number < 10 {
+        out.extend_from_slice(&[b' ', ones])?;
+    } else if number < 100 {
+        out.extend_from_slice(&[b' ', tens, ones])?;
+    } else {
+        out.extend_from_slice(&[b' ', hundreds, tens, ones])?;
+    }
+    Ok(())
+}
+
+/// Appends a number as the next word of a line, behind a space. It is fastest for numbers from 0 on below 1000. After an AllocError
+/// `out` is as before.
 pub fn put_number_word(out: &mut Vec<u8>, number: i128) -> Result<(), AllocError>
     ensures ok { OnOk result (out.new.items ≡ out.old.items ++ 32 ∷ numeral number) }
     ensures err { OnErr result (out.new.items ≡ out.old.items) }
 {
+    if 0 <= number && number < 1000 {
+        return put_small_word(out, number as u32);
+    }
     out.push(b' ')?;
     let written = put_number(out, number);
     if written.is_err() {
@@ -61,6 +84,9 @@ pub fn put_weight_word(out: &mut Vec<u8>, weight: Weight) -> Result<(), AllocErr
     ensures ok { OnOk result (out.new.items ≡ out.old.items ++ 32 ∷ weight_word weight) }
     ensures err { OnErr result (out.new.items ≡ out.old.items) }
 {
+    if weight.tie == 0 {
+        return put_number_word(out, weight.main);
+    }
     out.push(b' ')?;
     let written = put_weight(out, weight);
     if written.is_err() {
