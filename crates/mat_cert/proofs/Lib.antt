@@ -5,6 +5,7 @@ pub mod WordCounts
 pub mod MemberLists
 pub mod RungLists
 pub mod WordLaws
+pub mod CountedLast
 pub mod LineLaws
 pub mod ListLaws
 pub mod HeaderLaws

@@ -93,12 +93,25 @@ option_at key n true p = do
 abbrev pub sets_at : List ℕ → ℕ → ℕ → LinesLeft → Result (List (List ℕ) × LinesLeft) Fault
 sets_at key n many p = repeat_at (set_at key n) many p
 
+-- the set of k numbers below n that the words left of a line list in rising order
+unfoldable pub all_members_at : ℕ → ℕ → WordsLeft → Result (List ℕ) Fault
+all_members_at n k p = do
+  counted ← has_words k p
+  members_from n p.line 0 p.words
+
 -- a set of k numbers below n
 unfoldable pub counted_set_at : ℕ → ℕ → LinesLeft → Result (List ℕ × LinesLeft) Fault
 counted_set_at n k p = do
   line ← counted_at (codes "set") k p
   set ← members_from n line.0.line 0 line.0.words
   Ok (set, line.1)
+
+-- the n weights that the words left of a line are
+unfoldable pub all_weights_at : ℕ → WordsLeft → Result (List Weight) Fault
+all_weights_at n p = do
+  counted ← has_words n p
+  weights ← weights_at n p
+  Ok weights.0
 
 -- one part of a split of n weights
 unfoldable pub part_at : List ℕ → ℕ → LinesLeft → Result (List Weight × LinesLeft) Fault

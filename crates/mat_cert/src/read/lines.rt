@@ -1,7 +1,7 @@
 //! The lines of a certificate that hold no set.
 
 ghost use Rattle.mat_words.specs.{Cursors.{lines_left, words_left}, Reading.{Gives}};
-ghost use Rattle.mat_cert.specs.{LineReading.{counted_at, version_at, part_at, end_at, closed_at}};
+ghost use Rattle.mat_cert.specs.{LineReading.{counted_at, all_weights_at, version_at, part_at, end_at, closed_at}};
 
 use crate::limits::LARGEST_NUMBER;
 use crate::read::Read;
@@ -39,8 +39,27 @@ pub(crate) fn version_line<'a>(lines: LineCursor<'a>) -> Result<LineCursor<'a>, 
     Ok(rest)
 }
 
+// The words that are left of a line as `count` weights, of which there have to be as many: [`CertKind::WrongCount`] where there are not,
+// also where one of them is no weight. The words are counted only where the weights are not all found.
+fn all_weights(alloc: Global, words: WordCursor<'_>, count: u32) -> Result<PairWeights, CertRefusal>
+    ensures { Gives (λ x. x) result (all_weights_at count (words_left words.entry)) }
+{
+    match next_weights(alloc, words, count, -LARGEST_NUMBER, LARGEST_NUMBER) {
+        Ok((weights, after)) => {
+            if after.left.is_some() {
+                return Err(fault(CertKind::WrongCount, words.line));
+            }
+            Ok(PairWeights::new(weights))
+        }
+        Err(refusal) => {
+            has_this_many(words, count)?;
+            Err(CertRefusal::from(refusal))
+        }
+    }
+}
+
 /// A line of this word and one part of a split of `count` weights.
-#[tactic(auto, unfolding(crate::specs::LineReading::part_at))]
+#[tactic(auto, using(crate::proofs::CountedLast::part_is))]
 pub(crate) fn part_line<'a>(
     alloc: Global,
     lines: LineCursor<'a>,
@@ -49,9 +68,9 @@ pub(crate) fn part_line<'a>(
 ) -> Read<'a, PairWeights>
     ensures { Gives (λ x. (x.0, lines_left x.1)) result (part_at key.now count (lines_left lines.entry)) }
 {
-    let (words, rest) = counted_line(lines, key, count)?;
-    let (weights, _) = next_weights(alloc, words, count, -LARGEST_NUMBER, LARGEST_NUMBER)?;
-    Ok((PairWeights::new(weights), rest))
+    let (words, rest) = keyed_line(lines, key)?;
+    let weights = all_weights(alloc, words, count)?;
+    Ok((weights, rest))
 }
 
 /// The last line: the word `end` alone. The faults are those of [`counted_line`].

@@ -1,15 +1,14 @@
 //! Sets on lines of their own, one or many, and levels.
 
-ghost use Rattle.mat_words.specs.{Cursors.{lines_left}, Reading.{Gives}, Steps.{repeat_at}};
-ghost use Rattle.mat_cert.specs.{LineReading.{set_at, option_at, counted_set_at, sets_at, level_at}};
+ghost use Rattle.mat_words.specs.{Cursors.{lines_left, words_left}, Reading.{Gives}, Steps.{repeat_at}};
+ghost use Rattle.mat_cert.specs.{LineReading.{set_at, option_at, all_members_at, counted_set_at, sets_at, level_at}};
 
 use crate::answer::LevelLine;
 use crate::read::Read;
-use crate::read::lines::counted_line;
-use crate::read::words::{next_members, weight_word};
-use crate::refusal::CertRefusal;
+use crate::read::words::{has_this_many, next_members, weight_word};
+use crate::refusal::{CertKind, CertRefusal};
 use mat_sets::{ElemSet, SetList};
-use mat_words::{LineCursor, WordCursor, keyed_line};
+use mat_words::{LineCursor, WordCursor, fault, keyed_line};
 use std::alloc::Global;
 
 /// A line of this word and a set of numbers below the bound, in rising order.
@@ -51,8 +50,33 @@ pub(crate) fn option_line<'a>(
     }
 }
 
+// The set of the numbers below the bound that are left of a line, in rising order, of which there have to be as many:
+// [`CertKind::WrongCount`] where there are not, also where one of them is no such number. The words are counted only where the set isn't
+// found.
+fn all_members(
+    alloc: Global,
+    words: WordCursor<'_>,
+    bound: u32,
+    many: u32,
+) -> Result<ElemSet, CertRefusal>
+    ensures { Gives (λ set. set) result (all_members_at bound many (words_left words.entry)) }
+{
+    match next_members(alloc, words, bound) {
+        Ok(set) => {
+            if set.len() != many as usize {
+                return Err(fault(CertKind::WrongCount, words.line));
+            }
+            Ok(set)
+        }
+        Err(refusal) => {
+            has_this_many(words, many)?;
+            Err(refusal)
+        }
+    }
+}
+
 /// A `set` line with as many numbers below the bound.
-#[tactic(auto, unfolding(crate::specs::LineReading::counted_set_at))]
+#[tactic(auto, using(crate::proofs::CountedLast::counted_set_is))]
 pub(crate) fn counted_set_line<'a>(
     alloc: Global,
     lines: LineCursor<'a>,
@@ -61,8 +85,8 @@ pub(crate) fn counted_set_line<'a>(
 ) -> Read<'a, ElemSet>
     ensures { Gives (λ x. (x.0, lines_left x.1)) result (counted_set_at bound many (lines_left lines.entry)) }
 {
-    let (words, rest) = counted_line(lines, b"set", many)?;
-    let set = next_members(alloc, words, bound)?;
+    let (words, rest) = keyed_line(lines, b"set")?;
+    let set = all_members(alloc, words, bound, many)?;
     Ok((set, rest))
 }
 
