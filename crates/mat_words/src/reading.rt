@@ -37,6 +37,7 @@ fn line_read<'a>(line: u32, content: &'a [u8], rest: &'a [u8]) -> (WordCursor<'a
 }
 
 // What [`words_line`] gives, where the end of the line is looked for first, and then its spacing.
+#[inline(never)]
 #[tactic(auto, unfolding(crate::specs::Reading::line_at))]
 fn checked_line<'a>(
     lines: LineCursor<'a>,
@@ -98,6 +99,7 @@ pub fn next_word<'a>(
 }
 
 // The next word of a line as a number in `low..=high`, in one pass: None where it is none, or one of more than 18 digits.
+#[inline(always)]
 fn next_short<'a>(words: WordCursor<'a>, low: i128, high: i128) -> Option<(i128, WordCursor<'a>)>
     ensures value { IfSome result (λ x. number_at low high (words_left words.entry) ≡ Ok (x.0, words_left x.1)) }
     ensures range { IfSome result (λ x. (low ≤ℤ x.0) × (x.0 ≤ℤ high)) }
@@ -110,9 +112,28 @@ fn next_short<'a>(words: WordCursor<'a>, low: i128, high: i128) -> Option<(i128,
     Some((number, WordCursor { line, left }))
 }
 
-/// The next word of a line as a number in `low..=high`. [`ReadingFault::NoWord`] where none is left, and [`ReadingFault::Number`] where it
-/// is no number or one out of range.
+// The next word of a line as a number of any length, as for [`next_number`].
+#[inline(never)]
 #[tactic(auto, unfolding(crate::specs::Reading::number_at))]
+fn next_long<'a>(
+    words: WordCursor<'a>,
+    low: i128,
+    high: i128,
+) -> Result<(i128, WordCursor<'a>), Refusal<ReadingFault>>
+    ensures value { Gives (λ x. (x.0, words_left x.1)) result (number_at low high (words_left words.entry)) }
+    ensures range { IfOk result (λ x. (low ≤ℤ x.0) × (x.0 ≤ℤ high)) }
+    ensures told { IsTold result }
+{
+    let (word, rest) = next_word(words)?;
+    match read_number(word, low, high) {
+        Ok(number) => Ok((number, rest)),
+        Err(number) => Err(fault(ReadingFault::Number(number), rest.line)),
+    }
+}
+
+/// The next word of a line as a number in `low..=high`. [`ReadingFault::NoWord`] where none is left, and [`ReadingFault::Number`] where it
+/// is no number or one out of range. It is fastest for numbers of at most 18 digits, as all calls here that read numbers.
+#[inline(always)]
 pub fn next_number<'a>(
     words: WordCursor<'a>,
     low: i128,
@@ -122,13 +143,9 @@ pub fn next_number<'a>(
     ensures range { IfOk result (λ x. (low ≤ℤ x.0) × (x.0 ≤ℤ high)) }
     ensures told { IsTold result }
 {
-    if let Some(read) = next_short(words, low, high) {
-        return Ok(read);
-    }
-    let (word, rest) = next_word(words)?;
-    match read_number(word, low, high) {
-        Ok(number) => Ok((number, rest)),
-        Err(number) => Err(fault(ReadingFault::Number(number), rest.line)),
+    match next_short(words, low, high) {
+        Some(read) => Ok(read),
+        None => next_long(words, low, high),
     }
 }
 
@@ -150,6 +167,7 @@ pub fn next_size<'a>(
 
 /// The next word of a line as a number below the bound. [`ReadingFault::NoWord`] where none is left, and [`ReadingFault::Number`] where it
 /// is no number or one out of range.
+#[inline(always)]
 #[tactic(auto, unfolding(crate::specs::Reading::below_at))]
 pub fn next_below<'a>(
     words: WordCursor<'a>,
@@ -184,6 +202,7 @@ pub fn next_binary<'a>(
 
 // The next word of a line as a weight without a tie of which each number is in `low..=high`, in one pass: None where it is none, or one
 // of more than 18 digits.
+#[inline(always)]
 fn next_untied<'a>(words: WordCursor<'a>, low: i128, high: i128) -> Option<(Weight, WordCursor<'a>)>
     ensures { IfSome result (λ x. weight_at low high (words_left words.entry) ≡ Ok (x.0, words_left x.1)) }
 {
@@ -194,9 +213,27 @@ fn next_untied<'a>(words: WordCursor<'a>, low: i128, high: i128) -> Option<(Weig
     Some((Weight { main, tie: 0 }, rest))
 }
 
-/// The next word of a line as a weight of which each number is in `low..=high`. [`ReadingFault::NoWord`] where none is left, and
-/// [`ReadingFault::Number`] where it is no weight or one with a number out of range.
+// The next word of a line as a weight of any length, as for [`next_weight`].
+#[inline(never)]
 #[tactic(auto, unfolding(crate::specs::Reading::weight_at))]
+fn next_long_weight<'a>(
+    words: WordCursor<'a>,
+    low: i128,
+    high: i128,
+) -> Result<(Weight, WordCursor<'a>), Refusal<ReadingFault>>
+    ensures value { Gives (λ x. (x.0, words_left x.1)) result (weight_at low high (words_left words.entry)) }
+    ensures told { IsTold result }
+{
+    let (word, rest) = next_word(words)?;
+    match read_weight(word, low, high) {
+        Ok(weight) => Ok((weight, rest)),
+        Err(number) => Err(fault(ReadingFault::Number(number), rest.line)),
+    }
+}
+
+/// The next word of a line as a weight of which each number is in `low..=high`. [`ReadingFault::NoWord`] where none is left, and
+/// [`ReadingFault::Number`] where it is no weight or one with a number out of range. It is fastest where the weight has no tie.
+#[inline(always)]
 pub fn next_weight<'a>(
     words: WordCursor<'a>,
     low: i128,
@@ -205,13 +242,9 @@ pub fn next_weight<'a>(
     ensures value { Gives (λ x. (x.0, words_left x.1)) result (weight_at low high (words_left words.entry)) }
     ensures told { IsTold result }
 {
-    if let Some(read) = next_untied(words, low, high) {
-        return Ok(read);
-    }
-    let (word, rest) = next_word(words)?;
-    match read_weight(word, low, high) {
-        Ok(weight) => Ok((weight, rest)),
-        Err(number) => Err(fault(ReadingFault::Number(number), rest.line)),
+    match next_untied(words, low, high) {
+        Some(read) => Ok(read),
+        None => next_long_weight(words, low, high),
     }
 }
 

@@ -11,6 +11,7 @@ ghost use Rattle.mat_words.specs.{
 };
 
 // The digits in front of any other byte, as far as the 18th: what they stand for, and how many they are.
+#[inline(always)]
 fn leading_digits(bytes: &[u8]) -> (u64, usize)
     ensures digits { IsTrue (list_all is_digit (take result.1 bytes.now)) }
     ensures value { result.0 ≡ value_of (take result.1 bytes.now) }
@@ -30,6 +31,7 @@ fn leading_digits(bytes: &[u8]) -> (u64, usize)
 
 // What is left of a line behind its first word, which are its first bytes up to this place: None where another byte than a space
 // stands there.
+#[inline(always)]
 fn left_behind(line: &[u8], place: usize) -> Option<Option<&[u8]>>
     requires within { place ≤ length line.now }
     requires one_word { (k : ℕ) → k < place → get_or line.now k 0 ≢ 32 }
@@ -45,6 +47,7 @@ fn left_behind(line: &[u8], place: usize) -> Option<Option<&[u8]>>
 }
 
 // Whether so many digits in front of a line are a numeral: there is one, and no `0` stands before others.
+#[inline(always)]
 fn are_numeral(line: &[u8], count: usize) -> bool
     requires { count ≤ length line.now }
     ensures some { IsTrue result → 0 < count }
@@ -59,6 +62,7 @@ fn are_numeral(line: &[u8], count: usize) -> bool
 
 // The number without a sign that is the first word of a line, and what is left behind it. None where the word is another, or has more
 // than 18 digits.
+#[inline(always)]
 fn short_natural(line: &[u8]) -> Option<(u64, Option<&[u8]>)>
     ensures word { IfSome result (λ x. parts_of line.now ≡ numeral (pos x.0) ∷ parts_left x.1) }
     ensures short { IfSome result (λ x. x.0 < 10 ^ 18) }
@@ -73,6 +77,7 @@ fn short_natural(line: &[u8]) -> Option<(u64, Option<&[u8]>)>
 
 /// The number that is the first word of a line, and what is left behind it. None where the word is no number, or has more than 18
 /// digits. It takes no memory.
+#[inline(always)]
 pub(crate) fn short_number(line: &[u8]) -> Option<(i128, Option<&[u8]>)>
     ensures word { IfSome result (λ x. parts_of line.now ≡ numeral x.0 ∷ parts_left x.1) }
     ensures short { IfSome result (λ x. (neg_ℤ (pos (10 ^ 18)) ≤ℤ x.0) × (x.0 ≤ℤ pos (10 ^ 18))) }

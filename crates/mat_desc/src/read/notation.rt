@@ -57,6 +57,7 @@ impl Notation {
 }
 
 /// The next word as a number below the bound: by its numeral, or where numbers have names by its name. It takes no memory.
+#[inline(always)]
 #[tactic(auto, unfolding(crate::specs::Reading::member_at))]
 pub(crate) fn next_member<'a>(
     words: WordCursor<'a>,
