@@ -2,7 +2,7 @@
 -- one out of the class of y; so where the class of x is full, y has to stand in it, and else every y will do.
 use Rattle.std.proofs.Common.{◌≡◌, ℕ, ◌+◌, ◌<◌, ◌≤◌, Bool, true, false, List, [], length, get_or, ◌⊎◌, inl, inr, refl, sym, ap, ◌∙◌, arith}
 use Rattle.std.proofs.lemmas.Bool.{cases_Bool, both_ways, and_parts, and_from, false_from_ne_true}
-use Rattle.mat_sets.specs.Sets.{is_member, IsRising, IsSet, with_one, without_one, intersection}
+use Rattle.mat_sets.specs.Sets.{is_member, AllBelow, IsRising, IsSet, with_one, without_one, intersection}
 use Rattle.mat_sets.specs.SetTests.{is_set}
 use Rattle.mat_sets.specs.Families.{indicator}
 use Rattle.mat_sets.proofs.Members.{filter_same_at, IsRising-without_one, set_members}
@@ -74,6 +74,10 @@ pub not_counted : (n : ℕ) (sets : List (List ℕ)) (caps X : List ℕ) (i : �
 not_counted n sets caps X i same l many = false_from_ne_true (is_counted n sets caps X) (λ h.
     let tests = and_parts (is_set n X) (is_within_caps sets caps X) h in
     let most = (IsWithinCaps-from_test sets caps X same tests.1).at i l in omega arith)
+
+-- the members of an independent set are elements
+pub counted_below : (n : ℕ) (sets : List (List ℕ)) (caps I : List ℕ) → is_counted n sets caps I ≡ true → AllBelow n I
+counted_below n sets caps I passes = (IsSet-from_test n I (and_parts (is_set n I) (is_within_caps sets caps I) passes).0).below
 
 -- an element x outside an independent set I
 pub record IsOutside (n : ℕ) (sets : List (List ℕ)) (caps I : List ℕ) (x : ℕ) : Type 0 where

@@ -3,14 +3,14 @@
 use Rattle.std.proofs.Common.{◌≡◌, ℕ, ◌<◌, ◌≤◌, Bool, true, false, cond, leb, List, [], length, get_or, Option, Some, None, ◌⊎◌, inl, inr, refl, sym, ap, ◌∙◌, subst, arith}
 use Rattle.std.proofs.lemmas.Bool.{cases_lt, cases_order, both_ways, ltb-false, le-leb, leb-true, eq-eqb, eqb-true}
 use Rattle.std.proofs.lemmas.List.{get_or_default, get_or_past}
-use Rattle.std.specs.Prelude.{⊤, MatchOption}
+use Rattle.std.specs.Prelude.{⊤, MatchOption, is_some}
 use Rattle.mat_sets.specs.Sets.{is_member, AllBelow, IsRising, IsSubset, intersection}
 use Rattle.mat_sets.proofs.Members.{IsRising-intersection, set_members}
 use Rattle.mat_sets.proofs.Subsets.{subset_or, same_size_subset}
 use Rattle.mat_laws.specs.declared.exchange.Exchange.{Exchange}
 use Rattle.mat_laws.specs.Exchanges.{row_of}
 use Rattle.mat_count.specs.Counts.{is_counted}
-use Rattle.mat_count.specs.FullSets.{AreFullSets, IsSmallest, kept_at, has_fewer, row_of_entry, where_full}
+use Rattle.mat_count.specs.FullSets.{AreFullSets, IsSmallest, kept_at, has_fewer, row_at_place, row_of_size, where_full}
 use Rattle.mat_count.specs.Laminar.{crosses, IsLaminarFamily}
 use Rattle.mat_count.specs.LaminarLaws.{test_from-Crosses}
 use Rattle.mat_count.specs.LaminarMatroids.{CappedSets, IsLaminar, IsPlaceTable}
@@ -75,61 +75,69 @@ module _ (sets : List (List ℕ)) (family : IsLaminarFamily sets) (x : ℕ) wher
 
 -- ---- what is kept
 
--- of a set that is full its members are kept, and what is kept are those of a full one
-kept_where_full : (cap : ℕ) (members : List ℕ) → cap ≤ length members → where_full cap members ≡ Some members
-kept_where_full cap members full = ap (λ b. cond b (Some members) None) (le-leb cap (length members) full)
+-- of a set that is full its number of members is kept, and what is kept is that of a full one
+kept_where_full : (cap number : ℕ) → cap ≤ number → where_full cap number ≡ Some number
+kept_where_full cap number full = ap (λ b. cond b (Some number) None) (le-leb cap number full)
 
-full_where_kept : (cap : ℕ) (members found : List ℕ) → where_full cap members ≡ Some found → (cap ≤ length members) × (members ≡ found)
-full_where_kept cap members found is =
-    let parts = decide (leb cap (length members)) is in
-    (leb-true cap (length members) parts.0, parts.1)
+full_where_kept : (cap number found : ℕ) → where_full cap number ≡ Some found → (cap ≤ number) × (number ≡ found)
+full_where_kept cap number found is =
+    let parts = decide (leb cap number) is in
+    (leb-true cap number parts.0, parts.1)
   where
-    value : Option (List ℕ) → List ℕ
-    value None = []
-    value (Some entry) = entry
+    value : Option ℕ → ℕ
+    value None = 0
+    value (Some size) = size
 
-    is_some : Option (List ℕ) → Bool
+    is_some : Option ℕ → Bool
     is_some None = false
-    is_some (Some entry) = true
+    is_some (Some size) = true
 
-    decide : (b : Bool) → cond b (Some members) None ≡ Some found → (b ≡ true) × (members ≡ found)
+    decide : (b : Bool) → cond b (Some number) None ≡ Some found → (b ≡ true) × (number ≡ found)
     decide true is = (refl, ap value is)
     decide false is = absurd (both_ways false refl (ap is_some is))
 
+-- the row that a full set tells
+pub row_where_full : (base set : List ℕ) (size : Option ℕ) (with : List ℕ) → is_some size ≡ true → with ≡ intersection base set
+    → record { addable = false; with = with } ≡ row_of_size base set size
+row_where_full base set (Some size) with full is = ap (λ members. record { addable = false; with = members }) is
+row_where_full base set None with full is = absurd (both_ways false refl full)
+
 -- what was found is a listed set that holds x, and no full one that holds x has fewer members
-pub record IsSmallestAt (sets : List (List ℕ)) (x : ℕ) (entries : List (Option (List ℕ))) (found : Option ℕ) : Type 0 where
+pub record IsSmallestAt (sets : List (List ℕ)) (x : ℕ) (sizes : List (Option ℕ)) (found : Option ℕ) : Type 0 where
   pub listed : (i : ℕ) → found ≡ Some i → is_member x (get_or sets i []) ≡ true
-  pub least : (i : ℕ) → is_member x (get_or sets i []) ≡ true → has_fewer (get_or entries i None) (kept_at entries found) ≡ false
+  pub least : (i : ℕ) → is_member x (get_or sets i []) ≡ true → has_fewer (get_or sizes i None) (kept_at sizes found) ≡ false
 
 -- ---- the row
 
 module _ {n : ℕ} {sets : List (List ℕ)} {caps I : List ℕ} {x : ℕ} (o : IsOutside n sets caps I x) (family : IsLaminarFamily sets)
     (kept : FullSets) (full : AreFullSets sets caps I kept) (row : Exchange) where
-  abbrev entries : List (Option (List ℕ))
-  entries = kept.members.items
+  abbrev sizes : List (Option ℕ)
+  sizes = kept.sizes.items
 
-  -- of a full set its members are kept
-  entry_of_full : (i : ℕ) → i < length sets → get_or caps i 0 ≤ length (intersection I (get_or sets i []))
-      → get_or entries i None ≡ Some (intersection I (get_or sets i []))
-  entry_of_full i l most = full.at i l ∙ kept_where_full (get_or caps i 0) (intersection I (get_or sets i [])) most
+  abbrev count_at : ℕ → ℕ
+  count_at i = length (intersection I (get_or sets i []))
+
+  -- of a full set its number of members is kept
+  size_of_full : (i : ℕ) → i < length sets → get_or caps i 0 ≤ count_at i → get_or sizes i None ≡ Some (count_at i)
+  size_of_full i l most = full.at i l ∙ kept_where_full (get_or caps i 0) (count_at i) most
 
   -- where no full set holds x
-  row_of_none : ((i : ℕ) → is_member x (get_or sets i []) ≡ true → has_fewer (get_or entries i None) None ≡ false)
-      → row ≡ row_of_entry I None → row ≡ row_of (is_counted n sets caps) I x
-  row_of_none none is = row_with_room o row (λ i l h. elim (cases_lt (length (intersection I (get_or sets i []))) (get_or caps i 0)) [
+  row_of_none : ((i : ℕ) → is_member x (get_or sets i []) ≡ true → has_fewer (get_or sizes i None) None ≡ false)
+      → row ≡ row_of_size I [] None → row ≡ row_of (is_counted n sets caps) I x
+  row_of_none none is = row_with_room o row (λ i l h. elim (cases_lt (count_at i) (get_or caps i 0)) [
     | inl room ↦ room
-    | inr most ↦ absurd (both_ways (has_fewer (get_or entries i None) None) (none i h) (ap (λ e. has_fewer e None) (entry_of_full i l most)))
+    | inr most ↦ absurd (both_ways (has_fewer (get_or sizes i None) None) (none i h) (ap (λ s. has_fewer s None) (size_of_full i l most)))
   ]) (ap (λ e. e.addable) is) (ap (λ e. e.with) is)
 
   -- where the full set at this place holds x, and none that does has fewer members
-  row_of_some : (place : ℕ) (members : List ℕ) → is_member x (get_or sets place []) ≡ true → get_or entries place None ≡ Some members
-      → ((i : ℕ) → is_member x (get_or sets i []) ≡ true → has_fewer (get_or entries i None) (Some members) ≡ false)
-      → row ≡ row_of_entry I (Some members) → row ≡ row_of (is_counted n sets caps) I x
-  row_of_some place members own found least is =
-      row_at_full o known own (λ i l h. elim (cases_lt (length (intersection I (get_or sets i []))) (get_or caps i 0)) [
+  row_of_some : (place size : ℕ) → is_member x (get_or sets place []) ≡ true → get_or sizes place None ≡ Some size
+      → ((i : ℕ) → is_member x (get_or sets i []) ≡ true → has_fewer (get_or sizes i None) (Some size) ≡ false)
+      → row ≡ row_of_size I (get_or sets place []) (Some size) → row ≡ row_of (is_counted n sets caps) I x
+  row_of_some place size own found least is =
+      row_at_full o known own (λ i l h. elim (cases_lt (count_at i) (get_or caps i 0)) [
         | inl room ↦ inl room
         | inr most ↦ inr (fewer_inside sets family x I place i o.set.rising known l own h (fewest i l h most))
-      ]) filled.0 row (ap (λ e. e.addable) is) (ap (λ e. e.with) is ∙ sym filled.1)
+      ]) filled.0 row (ap (λ e. e.addable) is) (ap (λ e. e.with) is)
     where
       known : place < length sets
       known = elim (cases_lt place (length sets)) [
@@ -137,28 +145,28 @@ module _ {n : ℕ} {sets : List (List ℕ)} {caps I : List ℕ} {x : ℕ} (o : I
         | inr past ↦ absurd (both_ways false refl (ap (is_member x) (sym (get_or_past sets place [] past)) ∙ own))
       ]
 
-      filled : (get_or caps place 0 ≤ length (intersection I (get_or sets place []))) × (intersection I (get_or sets place []) ≡ members)
-      filled = full_where_kept (get_or caps place 0) (intersection I (get_or sets place [])) members (sym (full.at place known) ∙ found)
+      filled : (get_or caps place 0 ≤ count_at place) × (count_at place ≡ size)
+      filled = full_where_kept (get_or caps place 0) (count_at place) size (sym (full.at place known) ∙ found)
 
-      fewest : (i : ℕ) → i < length sets → is_member x (get_or sets i []) ≡ true → get_or caps i 0 ≤ length (intersection I (get_or sets i []))
-          → length (intersection I (get_or sets place [])) ≤ length (intersection I (get_or sets i []))
+      fewest : (i : ℕ) → i < length sets → is_member x (get_or sets i []) ≡ true → get_or caps i 0 ≤ count_at i → count_at place ≤ count_at i
       fewest i l h most =
-          let never = ap (λ e. has_fewer e (Some members)) (sym (entry_of_full i l most)) ∙ least i h in
-          let size = ap length filled.1 in
-          let low = ltb-false (length (intersection I (get_or sets i []))) (length members) never in
+          let never = ap (λ s. has_fewer s (Some size)) (sym (size_of_full i l most)) ∙ least i h in
+          let low = ltb-false (count_at i) size never in
+          let same = filled.1 in
           omega arith
 
-  pub row_of_smallest : (found : Option ℕ) → IsSmallestAt sets x entries found → row ≡ row_of_entry I (kept_at entries found)
+  pub row_of_smallest : (found : Option ℕ) → IsSmallestAt sets x sizes found → row ≡ row_at_place I sets sizes found
       → row ≡ row_of (is_counted n sets caps) I x
   row_of_smallest None small is = row_of_none small.least is
-  row_of_smallest (Some place) small is = by_entry (get_or entries place None) refl
+  row_of_smallest (Some place) small is = by_size (get_or sizes place None) refl
     where
-      by_entry : (entry : Option (List ℕ)) → get_or entries place None ≡ entry → row ≡ row_of (is_counted n sets caps) I x
-      by_entry None here =
-          row_of_none (λ i h. ap (has_fewer (get_or entries i None)) (sym here) ∙ small.least i h) (is ∙ ap (row_of_entry I) here)
-      by_entry (Some members) here =
-          row_of_some place members (small.listed place refl) here
-          (λ i h. ap (has_fewer (get_or entries i None)) (sym here) ∙ small.least i h) (is ∙ ap (row_of_entry I) here)
+      by_size : (size : Option ℕ) → get_or sizes place None ≡ size → row ≡ row_of (is_counted n sets caps) I x
+      by_size None here =
+          row_of_none (λ i h. ap (has_fewer (get_or sizes i None)) (sym here) ∙ small.least i h)
+          (is ∙ ap (row_of_size I (get_or sets place [])) here)
+      by_size (Some size) here =
+          row_of_some place size (small.listed place refl) here
+          (λ i h. ap (has_fewer (get_or sizes i None)) (sym here) ∙ small.least i h) (is ∙ ap (row_of_size I (get_or sets place [])) here)
 
 -- ---- by the matroid
 
@@ -170,34 +178,34 @@ laminar_seen count sets caps = record { count = count; sets = sets; caps = caps 
 module _ (count : ℕ) (sets : List (List ℕ)) (caps : List ℕ) {m : CappedSets} (same : laminar_seen count sets caps ≡ m) (table : List (List ℕ))
     (right : IsPlaceTable count sets table) {I : List ℕ} (kept : FullSets) (full : AreFullSets m.sets m.caps I kept) (x : ℕ) (small : x < m.count) where
   -- the places of x are among those of which something is kept
-  pub places_kept : {places : List ℕ} → places ≡ get_or table x [] → AllBelow (length kept.members.items) places
-  places_kept read = AllBelow-read right (subst (λ k. x < k.count) (sym same) small) kept.members.items
-      (subst (λ k. length kept.members.items ≡ length k.sets) (sym same) full.long) read
+  pub places_kept : {places : List ℕ} → places ≡ get_or table x [] → AllBelow (length kept.sizes.items) places
+  places_kept read = AllBelow-read right (subst (λ k. x < k.count) (sym same) small) kept.sizes.items
+      (subst (λ k. length kept.sizes.items ≡ length k.sets) (sym same) full.long) read
 
   -- the row, by the smallest of the full sets at the places of x
   pub row_at_smallest : IsLaminar m.count m.sets m.caps → is_counted m.count m.sets m.caps I ≡ true → is_member x I ≡ false
-      → {found : Option ℕ} → IsSmallest kept.members.items (get_or table x []) found
-      → (row : Exchange) → row ≡ row_of_entry I (kept_at kept.members.items found) → row ≡ row_of (is_counted m.count m.sets m.caps) I x
+      → {found : Option ℕ} → IsSmallest kept.sizes.items (get_or table x []) found
+      → (row : Exchange) → row ≡ row_at_place I sets kept.sizes.items found → row ≡ row_of (is_counted m.count m.sets m.caps) I x
   row_at_smallest sound passes outside {found} best row is =
       row_of_smallest (IsOutside-from_test m.count m.sets m.caps I x sound.capped small passes outside) sound.family kept full row found (record {
         listed = λ i h. sym (placed i) ∙ best.listed i h;
         least = λ i h. best.least i (placed i ∙ h);
-      }) is
+      }) (is ∙ ap (λ k. row_at_place I k.sets kept.sizes.items found) same)
     where
       placed : (i : ℕ) → is_member i (get_or table x []) ≡ is_member x (get_or m.sets i [])
       placed i = (subst (λ k. IsPlaceTable k.count k.sets table) same right).right x i small
 
 -- the class that the table names for x is the only one that holds it, and so the smallest
-named_is_smallest : (n : ℕ) (classes : List (List ℕ)) (table : List (Option ℕ)) (x : ℕ) (entries : List (Option (List ℕ))) → x < n
-    → IsClassTable n classes table → IsSmallestAt classes x entries (get_or table x None)
-named_is_smallest n classes table x entries small right = record {
+named_is_smallest : (n : ℕ) (classes : List (List ℕ)) (table : List (Option ℕ)) (x : ℕ) (sizes : List (Option ℕ)) → x < n
+    → IsClassTable n classes table → IsSmallestAt classes x sizes (get_or table x None)
+named_is_smallest n classes table x sizes small right = record {
   listed = λ i same. sym (right.right x i small) ∙ ap (λ entry. names entry i) same ∙ eq-eqb i i refl;
   least = λ i h. only (get_or table x None) i (right.right x i small ∙ h);
 }
   where
-    only : (entry : Option ℕ) (i : ℕ) → names entry i ≡ true → has_fewer (get_or entries i None) (kept_at entries entry) ≡ false
+    only : (entry : Option ℕ) (i : ℕ) → names entry i ≡ true → has_fewer (get_or sizes i None) (kept_at sizes entry) ≡ false
     only None i h = absurd (both_ways false refl h)
-    only (Some k) i h = ap (λ j. has_fewer (get_or entries j None) (get_or entries k None)) (sym (eqb-true k i h)) ∙ not_itself (get_or entries k None)
+    only (Some k) i h = ap (λ j. has_fewer (get_or sizes j None) (get_or sizes k None)) (sym (eqb-true k i h)) ∙ not_itself (get_or sizes k None)
 
 -- what a partition matroid tells
 abbrev partition_seen : ℕ → List (List ℕ) → List ℕ → CappedClasses
@@ -214,16 +222,16 @@ module _ (count : ℕ) (classes : List (List ℕ)) (caps : List ℕ) {p : Capped
   entry_read = let entries = right.entries in sym (read ∙ get_or_default table x entry None (omega arith))
 
   -- the class that the table names for x is one of those of which something is kept
-  pub entry_kept : MatchOption entry ⊤ (λ place. place < length kept.members.items)
+  pub entry_kept : MatchOption entry ⊤ (λ place. place < length kept.sizes.items)
   entry_kept =
-      subst (λ e. MatchOption e ⊤ (λ place. place < length kept.members.items)) entry_read
+      subst (λ e. MatchOption e ⊤ (λ place. place < length kept.sizes.items)) entry_read
       (subst (λ k. MatchOption (get_or table x None) ⊤ (λ place. place < k)) (sym full.long) (entry_known p.count p.classes table x small right))
 
   -- the row, by the class that the table names for x
   pub row_at_class : IsPartition p.count p.classes p.caps → is_counted p.count p.classes p.caps I ≡ true → is_member x I ≡ false
-      → (row : Exchange) → row ≡ row_of_entry I (kept_at kept.members.items entry) → row ≡ row_of (is_counted p.count p.classes p.caps) I x
+      → (row : Exchange) → row ≡ row_at_place I classes kept.sizes.items entry → row ≡ row_of (is_counted p.count p.classes p.caps) I x
   row_at_class sound passes outside row is =
       row_of_smallest (IsOutside-from_test p.count p.classes p.caps I x sound.capped small passes outside)
       (IsLaminarFamily-from_disjoint p.classes sound.disjoint) kept full row entry
-      (subst (IsSmallestAt p.classes x kept.members.items) entry_read
-      (named_is_smallest p.count p.classes table x kept.members.items small right)) is
+      (subst (IsSmallestAt p.classes x kept.sizes.items) entry_read
+      (named_is_smallest p.count p.classes table x kept.sizes.items small right)) (is ∙ ap (λ k. row_at_place I k.classes kept.sizes.items entry) same)

@@ -3,59 +3,67 @@ use Rattle.std.proofs.Common.{◌≡◌, ℕ, ◌+◌, ◌<◌, true, false, ◌
 use Rattle.std.specs.Prelude.{⊤, MatchOption}
 use Rattle.std.proofs.lemmas.Bool.{cases_lt, both_ways, or_cases, eqb-true, eq-eqb, ltb-true, ltb-false, le-ltb, or_right}
 use Rattle.std.proofs.lemmas.List.{get_or_append_left, get_or_push}
-use Rattle.mat_sets.specs.Sets.{is_member, IsRising, intersection}
+use Rattle.mat_sets.specs.Sets.{is_member}
 use Rattle.mat_sets.proofs.Steps.{is_member-take_more}
-use Rattle.mat_sets.proofs.Equalities.{intersection-commute}
-use Rattle.mat_count.specs.FullSets.{IsSmallest, kept_at, has_fewer, where_full}
+use Rattle.mat_count.specs.FullSets.{AreFullSets, IsSmallest, kept_at, has_fewer, where_full}
+use Rattle.mat_count.specs.Partitions.{CountsMembers}
+use Rattle.mat_count.specs.declared.full_sets.FullSets.{FullSets}
 
 -- ---- set by set
 
 -- what is kept of the first i sets
-pub record AreKept (sets : List (List ℕ)) (caps base : List ℕ) (i : ℕ) (entries : List (Option (List ℕ))) : Type 0 where
-  pub long : length entries ≡ i
-  pub at : (k : ℕ) → k < i → get_or entries k None ≡ where_full (get_or caps k 0) (intersection base (get_or sets k []))
+pub record AreKept (caps numbers : List ℕ) (i : ℕ) (sizes : List (Option ℕ)) : Type 0 where
+  pub long : length sizes ≡ i
+  pub at : (k : ℕ) → k < i → get_or sizes k None ≡ where_full (get_or caps k 0) (get_or numbers k 0)
 
-pub AreKept-more : (sets : List (List ℕ)) (caps base : List ℕ) (i : ℕ) (entries : List (Option (List ℕ))) (entry : Option (List ℕ)) (members : List ℕ)
-    → IsRising base → IsRising (get_or sets i []) → members ≡ intersection (get_or sets i []) base → entry ≡ where_full (get_or caps i 0) members
-    → AreKept sets caps base i entries → AreKept sets caps base (i + 1) (entries ++ entry ∷ [])
-AreKept-more sets caps base i entries entry members r s is told kept = record {
-  long = let long = kept.long in omega (arith, length-append entries (entry ∷ []));
+pub AreKept-more : (caps numbers : List ℕ) (i : ℕ) (sizes : List (Option ℕ)) (size : Option ℕ) (number : ℕ) → number ≡ get_or numbers i 0
+    → size ≡ where_full (get_or caps i 0) number → AreKept caps numbers i sizes → AreKept caps numbers (i + 1) (sizes ++ size ∷ [])
+AreKept-more caps numbers i sizes size number read told kept = record {
+  long = let long = kept.long in omega (arith, length-append sizes (size ∷ []));
   at = λ k l. let long = kept.long in elim (cases_lt k i) [
-    | inl before ↦ get_or_append_left entries (entry ∷ []) None k (omega arith) ∙ kept.at k before
+    | inl before ↦ get_or_append_left sizes (size ∷ []) None k (omega arith) ∙ kept.at k before
     | inr past ↦ (
         let here : k ≡ i = omega arith in
-        get_or_push entries entry None k (omega arith) ∙ told
-        ∙ ap (where_full (get_or caps i 0)) (is ∙ intersection-commute (get_or sets i []) base s r)
-        ∙ ap (λ j. where_full (get_or caps j 0) (intersection base (get_or sets j []))) (sym here))
+        get_or_push sizes size None k (omega arith) ∙ told ∙ ap (where_full (get_or caps i 0)) read
+        ∙ ap (λ j. where_full (get_or caps j 0) (get_or numbers j 0)) (sym here))
   ];
+}
+
+-- once all are kept
+pub AreFullSets-kept : (sets : List (List ℕ)) (caps base numbers : List ℕ) (i : ℕ) (kept : FullSets) → i ≡ length numbers → kept.base ≡ base
+    → AreKept caps numbers i kept.sizes.items → CountsMembers sets base numbers → AreFullSets sets caps base kept
+AreFullSets-kept sets caps base numbers i kept all marked sizes counts = record {
+  marked = marked;
+  long = sizes.long ∙ all ∙ counts.long;
+  at = λ k l. sizes.at k (let long = counts.long in omega arith) ∙ ap (where_full (get_or caps k 0)) (counts.at k l);
 }
 
 -- ---- place by place
 
 -- what was found is the smallest at the first i places
-pub record IsLooking (entries : List (Option (List ℕ))) (places : List ℕ) (i : ℕ) (found : Option ℕ) : Type 0 where
-  pub smallest : IsSmallest entries (take i places) found
-  pub known : MatchOption found ⊤ (λ place. place < length entries)
+pub record IsLooking (sizes : List (Option ℕ)) (places : List ℕ) (i : ℕ) (found : Option ℕ) : Type 0 where
+  pub smallest : IsSmallest sizes (take i places) found
+  pub known : MatchOption found ⊤ (λ place. place < length sizes)
 
 abbrev place_in : Option ℕ → ℕ
 place_in None = 0
 place_in (Some i) = i
 
 -- what has more members than one that was the smallest has more than one that is smaller still
-fewer_still : (new old other : Option (List ℕ)) → has_fewer new old ≡ true → has_fewer other old ≡ false → has_fewer other new ≡ false
+fewer_still : (new old other : Option ℕ) → has_fewer new old ≡ true → has_fewer other old ≡ false → has_fewer other new ≡ false
 fewer_still new old None h never = refl
 fewer_still None old (Some m) h never = absurd (both_ways false refl h)
 fewer_still (Some a) None (Some m) h never = absurd (both_ways true never refl)
 fewer_still (Some a) (Some b) (Some m) h never =
-    let less = ltb-true (length a) (length b) h in
-    let most = ltb-false (length m) (length b) never in
-    le-ltb (length m) (length a) (omega arith)
+    let less = ltb-true a b h in
+    let most = ltb-false m b never in
+    le-ltb m a (omega arith)
 
-pub not_itself : (entry : Option (List ℕ)) → has_fewer entry entry ≡ false
+pub not_itself : (size : Option ℕ) → has_fewer size size ≡ false
 not_itself None = refl
-not_itself (Some m) = le-ltb (length m) (length m) (omega arith)
+not_itself (Some m) = le-ltb m m (omega arith)
 
-module _ {entries : List (Option (List ℕ))} {places : List ℕ} {i : ℕ} {found : Option ℕ} (w : IsLooking entries places i found)
+module _ {sizes : List (Option ℕ)} {places : List ℕ} {i : ℕ} {found : Option ℕ} (w : IsLooking sizes places i found)
     (place : ℕ) (inside : i < length places) (at : place ≡ get_or places i 0) where
   -- of the places up to the next one each is an earlier one, or the next
   either : {A : Type 0} (j : ℕ) → is_member j (take (i + 1) places) ≡ true → (is_member j (take i places) ≡ true → A) → (j ≡ place → A) → A
@@ -64,25 +72,25 @@ module _ {entries : List (Option (List ℕ))} {places : List ℕ} {i : ℕ} {fou
     | inr here ↦ last (eqb-true j (get_or places i 0) here ∙ sym at)
   ]
 
-  pub IsLooking-found : place < length entries → has_fewer (get_or entries place None) (kept_at entries found) ≡ true
-      → IsLooking entries places (i + 1) (Some place)
+  pub IsLooking-found : place < length sizes → has_fewer (get_or sizes place None) (kept_at sizes found) ≡ true
+      → IsLooking sizes places (i + 1) (Some place)
   IsLooking-found known fewer = record {
     smallest = record {
       listed = λ j same.
           ap (λ k. is_member k (take (i + 1) places)) (sym (ap place_in same)) ∙ is_member-take_more places i place inside
           ∙ or_right (is_member place (take i places)) (eqb place (get_or places i 0)) (ap (eqb place) (sym at) ∙ eq-eqb place place refl);
       least = λ j h. either j h
-          (λ before. fewer_still (get_or entries place None) (kept_at entries found) (get_or entries j None) fewer (w.smallest.least j before))
-          (λ last. ap (λ k. has_fewer (get_or entries k None) (get_or entries place None)) last ∙ not_itself (get_or entries place None));
+          (λ before. fewer_still (get_or sizes place None) (kept_at sizes found) (get_or sizes j None) fewer (w.smallest.least j before))
+          (λ last. ap (λ k. has_fewer (get_or sizes k None) (get_or sizes place None)) last ∙ not_itself (get_or sizes place None));
     };
     known = known;
   }
 
-  pub IsLooking-passed : has_fewer (get_or entries place None) (kept_at entries found) ≡ false → IsLooking entries places (i + 1) found
+  pub IsLooking-passed : has_fewer (get_or sizes place None) (kept_at sizes found) ≡ false → IsLooking sizes places (i + 1) found
   IsLooking-passed never = record {
     smallest = record {
       listed = λ j same. is_member-take_more places i j inside ∙ ap (λ b. b || eqb j (get_or places i 0)) (w.smallest.listed j same);
-      least = λ j h. either j h (w.smallest.least j) (λ last. ap (λ k. has_fewer (get_or entries k None) (kept_at entries found)) last ∙ never);
+      least = λ j h. either j h (w.smallest.least j) (λ last. ap (λ k. has_fewer (get_or sizes k None) (kept_at sizes found)) last ∙ never);
     };
     known = w.known;
   }

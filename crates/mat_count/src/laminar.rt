@@ -301,10 +301,11 @@ impl Matroid for Laminar {
         )
     }
 
-    /// The full sets and their members. The time is that of reading the set and each listed one. The only error is want of
-    /// memory.
+    /// The set as bits, and the sizes of the full sets. The time is that of the listed sets that hold each member, and of reading the caps.
+    /// The only error is want of memory.
     fn keep(&self, alloc: Global, base: &ElemSet) -> Result<FullSets, AllocError> {
-        FullSets::of(alloc, &self.sets, &self.caps, base)
+        let numbers = members_by_set(alloc, &self.sets, &self.places, base)?;
+        FullSets::of(alloc, &numbers, &self.caps, base)
     }
 
     /// Whether no listed set that holds x is full. The time is the number of those sets.
@@ -320,8 +321,8 @@ impl Matroid for Laminar {
     }
 
     /// The members of the smallest full set that holds x, which stand in each full one that does, since two of them are
-    /// nested; where none is full, every member. The time is the number of sets that hold x and a copy of the answer. The only
-    /// error is want of memory.
+    /// nested; where none is full, every member. The time is the number of sets that hold x, and that of reading the smallest full
+    /// one or the set. The only error is want of memory.
     fn row(
         &self,
         alloc: Global,
@@ -330,6 +331,6 @@ impl Matroid for Laminar {
         x: u32,
     ) -> Result<Exchange, AllocError> {
         let place = kept.smallest(self.places.get(x as usize));
-        kept.row_at(alloc, base, place)
+        kept.row_at(alloc, base, &self.sets, place)
     }
 }

@@ -252,9 +252,11 @@ impl Matroid for Partition {
         run_by_classes(alloc, &self.classes, &self.caps, &self.class_of, order)
     }
 
-    /// The full classes and their members. The time is that of reading the set and the classes. The only error is want of memory.
+    /// The set as bits, and the sizes of the full classes. The time is that of reading the set and the caps. The only error is want of
+    /// memory.
     fn keep(&self, alloc: Global, base: &ElemSet) -> Result<FullSets, AllocError> {
-        FullSets::of(alloc, &self.classes, &self.caps, base)
+        let numbers = members_by_class(alloc, &self.classes, &self.class_of, base)?;
+        FullSets::of(alloc, &numbers, &self.caps, base)
     }
 
     /// Whether the class of x, if it has one, is not full. The time is constant.
@@ -268,7 +270,7 @@ impl Matroid for Partition {
         Ok(kept.has_room_at(self.class_of[x as usize]))
     }
 
-    /// The members of the class of x, where it is full; else every member. The time is that of a copy of the answer. The only
+    /// The members of the class of x, where it is full; else every member. The time is that of reading the class or the set. The only
     /// error is want of memory.
     fn row(
         &self,
@@ -277,6 +279,6 @@ impl Matroid for Partition {
         kept: &FullSets,
         x: u32,
     ) -> Result<Exchange, AllocError> {
-        kept.row_at(alloc, base, self.class_of[x as usize])
+        kept.row_at(alloc, base, &self.classes, self.class_of[x as usize])
     }
 }

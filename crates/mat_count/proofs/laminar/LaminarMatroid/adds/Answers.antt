@@ -12,5 +12,5 @@ pub returns : goal.returns
 returns c =
     let own = c.self.inside in
     let best = rw c.get.ensures.item at c.smallest-place.ensures.smallest in
-    c.has_room_at.ensures c.args._base.now ∙ ap (λ (r : Exchange). r.addable) (row_at_smallest own.count own.sets own.caps.items c.self.view_is own.places c.self.invariant c.args.kept.now c.requires.kept c.args.x c.requires.below
+    c.has_room_at.ensures c.args._base.now own.sets ∙ ap (λ (r : Exchange). r.addable) (row_at_smallest own.count own.sets own.caps.items c.self.view_is own.places c.self.invariant c.args.kept.now c.requires.kept c.args.x c.requires.below
     c.requires.sound c.requires.base c.requires.outside best _ refl)

@@ -11,5 +11,5 @@ has_room_at-requires c =
 pub returns : goal.returns
 returns c =
     let own = c.self.inside in
-    c.has_room_at.ensures c.args._base.now ∙ ap (λ (r : Exchange). r.addable) (row_at_class own.count own.classes own.caps.items c.self.view_is own.class_of.items c.self.invariant c.args.kept.now c.requires.kept c.args.x c.requires.below c.index.ensures
+    c.has_room_at.ensures c.args._base.now own.classes ∙ ap (λ (r : Exchange). r.addable) (row_at_class own.count own.classes own.caps.items c.self.view_is own.class_of.items c.self.invariant c.args.kept.now c.requires.kept c.args.x c.requires.below c.index.ensures
     c.requires.sound c.requires.base c.requires.outside _ refl)
