@@ -8,3 +8,4 @@ pub mod PackSolutions
 pub mod GraphSolutions
 pub mod PrintedSolutions
 pub mod QueryAnswers
+pub mod CostlyUnions

@@ -3,16 +3,18 @@
 ghost use Rattle.std.specs.Prelude.{◌≡◌, ◌≤◌, ◌||◌, if◌then◌else◌, true, length, map, IfOk};
 ghost use Rattle.mat_sets.specs.{Limits.{most_elements, largest_number}, Sets.{AllBelow}, Weights.{AreWeightsWithin}};
 ghost use Rattle.mat_work.specs.Workers.{AreWorkers};
-ghost use Rattle.mat_any.specs.{Trees.{has_union}, Views.{tree_of}};
+ghost use Rattle.mat_any.specs.Views.{tree_of};
 ghost use Rattle.mat_check.specs.Fitting.{is_single, is_pair, is_coloured, is_table};
 ghost use Rattle.mat_problem.specs.{Views.{instance_of}, Validity.{IsValid}, Soundness.{IsSoundInstance}};
 ghost use Rattle.mat_cert.specs.Views.{certificate_of};
 ghost use Rattle.mat_solve.specs.{
   Answers.{IsSolution},
+  CostlyRows.{is_worth_threads},
   PricedRungs.{priced_rung, plain_rung, HaveFewElements, AreSmallSets},
   Queries.{IsAnswerOf},
 };
 
+use crate::costly_rows::has_costly_rows;
 use crate::forms::only_matroid;
 use crate::query::Query;
 use crate::workers::SolveWorkers;
@@ -94,14 +96,21 @@ pub(crate) fn best(alloc: Global, problem: &Problem) -> Result<Answer, AllocErro
     })
 }
 
-// How many of the workers pay where rows of two matroids are made: all where a union stands within one of them, since each row takes a search
-// then, and else one, since a row takes less time than a thread takes to start.
+// Whether the rows of a matroid are worth threads: those of a union, each of which takes a search, where they are costly.
+fn is_worth_threads(matroid: &AnyMatroid) -> bool
+    ensures { result ≡ is_worth_threads (tree_of matroid.now) }
+{
+    has_union(matroid) && has_costly_rows(matroid)
+}
+
+// How many of the workers pay where rows of two matroids are made: all where those of one of them are worth threads, and else one, since all rows
+// of a size take less time than threads take to start.
 fn worthwhile_workers(first: &AnyMatroid, second: &AnyMatroid, workers: u32) -> u32
     requires { AreWorkers workers }
-    ensures count { result ≡ (if has_union (tree_of first.now) || has_union (tree_of second.now) then workers else 1) }
+    ensures count { result ≡ (if is_worth_threads (tree_of first.now) || is_worth_threads (tree_of second.now) then workers else 1) }
     ensures range { AreWorkers result }
 {
-    if has_union(first) || has_union(second) {
+    if is_worth_threads(first) || is_worth_threads(second) {
         workers
     } else {
         1

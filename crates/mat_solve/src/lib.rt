@@ -2,6 +2,7 @@
 //! file is opened here.
 #![tactic(auto)]
 
+mod costly_rows;
 mod forms;
 mod ladders;
 mod query;
