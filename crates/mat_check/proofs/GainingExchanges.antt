@@ -1,4 +1,4 @@
--- Which exchanges gain is told by the members of circuits and by the least weight; and none gains exactly where no independent set of as many
+-- Which exchanges gain is told by rows and by the least weight; and none gains exactly where no independent set of as many
 -- elements is heavier.
 use Rattle.std.proofs.Common.{◌≡◌, ℕ, ◌+◌, ◌<◌, ◌≤◌, Bool, true, false, not, cond, ◌&&◌, ◌||◌, if◌then◌else◌, eqb, List, [], ◌∷◌, length, get_or, take}
 use Rattle.std.proofs.Common.{filter, Option, Some, None, inl, inr, refl, sym, ap, ◌∙◌, subst, arith, take_all}
@@ -7,7 +7,6 @@ use Rattle.std.proofs.lemmas.Bool.{and_from, and_parts, and_right, both_ways, ca
 use Rattle.std.proofs.lemmas.Bool.{false_from_ne_true, not-true, or_cases, or_left, or_right, true_from_ne_false}
 use Rattle.std.proofs.lemmas.Int.{ints}
 use Rattle.std.proofs.lemmas.List.Folds.{list_any_at, list_any_more}
-use Rattle.std.proofs.lemmas.Option.{none-some, same_Some}
 use Rattle.mat_sets.specs.Search.{some_below}
 use Rattle.mat_sets.specs.Sets.{is_member, with_one, without_one, AllBelow}
 use Rattle.mat_sets.specs.Weights.{◌≺◌, ◌≼◌, is_below}
@@ -17,14 +16,13 @@ use Rattle.mat_sets.proofs.Members.{is_member-head, is_member-with_one, place_of
 use Rattle.mat_sets.proofs.Search.{some_below_none}
 use Rattle.mat_sets.proofs.Truths.{or_none}
 use Rattle.mat_sets.proofs.WeightOrder.{below_from, below_gives, not_below_from, not_below_gives}
-use Rattle.mat_laws.specs.Exchanges.{circuit_members, row_of}
+use Rattle.mat_laws.specs.declared.exchange.Exchange.{Exchange}
+use Rattle.mat_laws.specs.Exchanges.{row_of}
 use Rattle.mat_laws.specs.Matroids.{IsMatroid}
 use Rattle.mat_laws.specs.Searches.{is_beaten}
-use Rattle.mat_laws.proofs.Independent.{rising}
 use Rattle.mat_laws.proofs.LocallyHeaviest.{exchange_gains_nothing, heaviest_from_exchanges}
-use Rattle.mat_laws.proofs.Rows.{exchanged, row-addable, row-with}
+use Rattle.mat_laws.proofs.Rows.{exchanged, row-with}
 use Rattle.mat_laws.proofs.Searches.{IsHeaviest-not_beaten, not_beaten-IsHeaviest}
-use Rattle.mat_laws.proofs.Symmetric.{IsRising-exchange, exchange-IsSubset}
 use Rattle.mat_check.specs.Exchanges.{exchange_gains, has_lighter, exceeds_least, is_gain, least_with, IsLeastWeightOrNone}
 
 -- ---- the least weight of some elements
@@ -98,14 +96,6 @@ any_kept keeps test (x ∷ xs) = any_step test (keeps x) (list_any (λ y. keeps 
 
 -- ---- one element
 
-no_circuit : (addable : Bool) (taken : List ℕ) → (if addable then None else Some taken) ≡ None → addable ≡ true
-no_circuit true taken h = refl
-no_circuit false taken h = absurd (none-some taken (sym h))
-
-circuit_is : (addable : Bool) (taken members : List ℕ) → (if addable then None else Some taken) ≡ Some members → taken ≡ members
-circuit_is true taken members h = absurd (none-some members h)
-circuit_is false taken members h = same_Some taken members h
-
 module _ (p : List ℕ → Bool) (w : ℕ → Weight) (I : List ℕ) (x : ℕ) where
   -- whether x gains where it is outside I
   gains_outside : is_member x I ≡ false → exchange_gains p w I x ≡ list_any (is_gain p w I x) I
@@ -121,33 +111,20 @@ module _ (p : List ℕ → Bool) (w : ℕ → Weight) (I : List ℕ) (x : ℕ) w
       let both = and_parts (p (with_one (without_one I one.0) x)) (is_below (w one.0) (w x)) one.2 in
       both_ways (has_lighter w I (w x)) light (member_passes (λ y. is_below (w y) (w x)) I one.0 one.1 both.1))))
 
-module _ (p : List ℕ → Bool) (I : List ℕ) (x : ℕ) (out : is_member x I ≡ false) (members : List ℕ)
-    (is : circuit_members (row_of p I x) ≡ Some members) where
-  -- x can take the place of the members of its circuit
-  taken_places : filter (exchanged p I x) I ≡ members
-  taken_places = sym (row-with p I x (row_of p I x) out refl) ∙ circuit_is (row_of p I x).addable (row_of p I x).with members is
+module _ (p : List ℕ → Bool) (I : List ℕ) (x : ℕ) (out : is_member x I ≡ false) (e : Exchange) (is : e ≡ row_of p I x) where
+  -- x can take the place of the members that its row has
+  taken_places : filter (exchanged p I x) I ≡ e.with
+  taken_places = sym (row-with p I x e out is)
 
-  pub circuit_below : (n : ℕ) → AllBelow n I → AllBelow n members
-  circuit_below n below = subst (AllBelow n) taken_places (AllBelow-filter n (exchanged p I x) I below)
+  pub row_below : (n : ℕ) → AllBelow n I → AllBelow n e.with
+  row_below n below = subst (AllBelow n) taken_places (AllBelow-filter n (exchanged p I x) I below)
 
-  pub circuit_gains : (w : ℕ → Weight) → has_lighter w members (w x) ≡ exchange_gains p w I x
-  circuit_gains w =
+  pub row_gains : (w : ℕ → Weight) → has_lighter w e.with (w x) ≡ exchange_gains p w I x
+  row_gains w =
       ap (λ ys. has_lighter w ys (w x)) (sym taken_places) ∙ any_kept (exchanged p I x) (λ y. is_below (w y) (w x)) I
       ∙ sym (gains_outside p w I x out)
 
 module _ {n : ℕ} {p : List ℕ → Bool} (laws : IsMatroid n p) (w : ℕ → Weight) (I : List ℕ) (ok : p I ≡ true) where
-  -- what can be added can take the place of each member
-  pub addable_gains : (x : ℕ) → is_member x I ≡ false → circuit_members (row_of p I x) ≡ None → has_lighter w I (w x) ≡ true
-      → true ≡ exchange_gains p w I x
-  addable_gains x out none lighter =
-      let fits : p (with_one I x) ≡ true =
-      sym (row-addable p I x (row_of p I x) out refl) ∙ no_circuit (row_of p I x).addable (row_of p I x).with none in
-      let one = some_member (λ y. is_below (w y) (w x)) I lighter in
-      let taken : p (with_one (without_one I one.0) x) ≡ true =
-      laws.subsets _ (with_one I x) (IsRising-exchange I x one.0 (rising laws I ok)) (exchange-IsSubset I x one.0) fits in
-      let gain = and_from (p (with_one (without_one I one.0) x)) (is_below (w one.0) (w x)) taken one.2 in
-      sym (gains_outside p w I x out ∙ member_passes (is_gain p w I x) I one.0 one.1 gain)
-
   -- ---- all elements
 
   -- where an exchange gains, some independent set of as many elements is heavier

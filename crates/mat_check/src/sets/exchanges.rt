@@ -93,7 +93,7 @@ fn has_lighter(elements: &[u32], weights: &[Weight], other: Weight) -> bool
 }
 
 // Whether x is outside an independent set, of which something is kept, and can take the place of a member that weighs less. An element that
-// outweighs no member needs no row; of the others each that can be added can take any member's place, and so that of the lightest.
+// outweighs no member needs no row.
 fn exchange_gains<M: Matroid>(
     alloc: Global,
     m: &M,
@@ -119,15 +119,13 @@ fn exchange_gains<M: Matroid>(
     if !exceeds_least(weight, least) {
         return Ok(false);
     }
-    match m.circuit_members(alloc, set, kept, x)? {
-        None => Ok(true),
-        Some(members) => Ok(has_lighter(members.as_slice(), weights, weight)),
-    }
+    let exchange = m.row(alloc, set, kept, x)?;
+    Ok(has_lighter(exchange.with.as_slice(), weights, weight))
 }
 
 /// Whether some independent set of as many elements is heavier than this one: then an exchange of one member for an element outside makes it
-/// heavier (Schrijver, chapter 40). The circuit of each element outside that outweighs the lightest member is asked for, until an exchange is
-/// found. The only error is want of memory.
+/// heavier (Schrijver, chapter 40). The exchanges of each element outside that outweighs the lightest member are asked for, until one makes it
+/// heavier. The only error is want of memory.
 pub(crate) fn is_beaten_by_exchange<M: Matroid>(
     alloc: Global,
     m: &M,
