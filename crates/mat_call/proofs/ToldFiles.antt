@@ -67,20 +67,16 @@ opened_told (Err error) held left fails is = tt
 
 module _ (files : List FileState) where
   certificate_told : (request : Request) (bytes : List ℕ) → TellsCertificate (told_in files) request bytes
-  certificate_told show bytes = tt
-  certificate_told (solve query) bytes = tt
-  certificate_told cuts bytes = tt
   certificate_told (check certificate) bytes = λ instance described. refl
   certificate_told (witness k certificate) bytes = λ instance described. refl
   certificate_told (verify k certificate shown) bytes = λ instance described answer is. refl
+  certificate_told _ bytes = tt
 
   jobs_told : (jobs : List Job) → TellsJobs (told_in files) jobs
   jobs_told [] = tt
   jobs_told (job ∷ jobs) = (refl, λ done. jobs_told jobs)
 
   pub always_told : (asked : Option Task) → Tells (told_in files) asked
-  always_told None = tt
   always_told (Some (about file request)) = certificate_told request (unwrap_or (held_in files file) no_text)
-  always_told (Some (sample kind size seed)) = tt
   always_told (Some (batch list)) = λ jobs listed. jobs_told jobs
-  always_told (Some (convert file)) = tt
+  always_told _ = tt

@@ -31,12 +31,8 @@ module _ (n : ℕ) (a b : List Exchange) (p q : List ℕ) (long-a : length a ≡
   trades (suc (suc i)) x h = absurd (omega arith)
 
   none_twice : (i j x : ℕ) → i < j → j < 2 → is_member x (part_at (p ∷ q ∷ []) i) ≡ true → is_member x (part_at (p ∷ q ∷ []) j) ≡ false
-  none_twice zero zero x l h m = absurd (omega arith)
   none_twice zero (suc zero) x l h m = apart_at p q apart x m
-  none_twice zero (suc (suc j)) x l h m = absurd (omega arith)
-  none_twice (suc i) zero x l h m = absurd (omega arith)
-  none_twice (suc i) (suc zero) x l h m = absurd (omega arith)
-  none_twice (suc i) (suc (suc j)) x l h m = absurd (omega arith)
+  none_twice _ _ x l h m = absurd (omega arith)
 
   one_of : (i x : ℕ) → i < 2 → is_member x (part_at (p ∷ q ∷ []) i) ≡ true → is_member x (all_below n) ≡ true
   one_of zero x h m = (IsSubset-all_below n p below-p).inside x m

@@ -398,10 +398,6 @@ IsPlain certificate = Unit {0}
 -- a certificate in range that is no ladder is shorter than those that are printed may be
 pub length-plain : (c : Certificate) → IsPlain c → IsRanged c → length (certificate_text c) < 24000000
 unfolding certificate_text
-length-plain (intersect n rungs cut) plain range = absurd plain
-length-plain (best n rungs) plain range = absurd plain
-length-plain (certificates.rainbow n v c rungs cut missing) plain range = absurd plain
-length-plain (certificates.assign n r c rungs cut) plain range = absurd plain
 length-plain (certificates.union_of n weight parts levels) plain range =
     let few = range.few in
     let parts_few = range.parts_in_range.no_more in
@@ -487,6 +483,7 @@ length-plain (certificates.disjoint_none n k v set) plain range =
     (short_header_and (codes "disjoint") (n ∷ k ∷ []) (codes "none" ∷ numerals (v ∷ [])) (omega arith) (omega arith, (omega arith, tt))
     (word_and (codes "none") (v ∷ []) (omega arith) (omega arith, tt)) (omega arith))
     (short_set_and v (codes "vertices") set (end_line ∷ []) v_few (omega arith) range.1 short_end) (omega arith)
+length-plain _ plain range = absurd plain
 
 -- ---- all certificates
 

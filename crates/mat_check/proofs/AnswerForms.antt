@@ -32,62 +32,33 @@ RightIsOptimal instance answer = IsValid instance → IsSoundInstance instance �
 module _ (P : Instance → Type 0) where
   on_pair : ((w : List Weight) (first second : Tree) → P (pair w first second)) → (instance : Instance) → is_pair instance ≡ true → P instance
   on_pair f (pair w first second) h = f w first second
-  on_pair f (list _ _) h = absurd (false≢true h)
-  on_pair f (graph _ _) h = absurd (false≢true h)
-  on_pair f (rooted _ _ _ _) h = absurd (false≢true h)
-  on_pair f (coloured _ _ _ _ _) h = absurd (false≢true h)
-  on_pair f (table _ _ _ _) h = absurd (false≢true h)
+  on_pair f _ h = absurd (false≢true h)
 
   on_list : ((w : List Weight) (matroids : List Tree) → P (list w matroids)) → (instance : Instance) → is_list instance ≡ true → P instance
-  on_list f (pair _ _ _) h = absurd (false≢true h)
   on_list f (list w matroids) h = f w matroids
-  on_list f (graph _ _) h = absurd (false≢true h)
-  on_list f (rooted _ _ _ _) h = absurd (false≢true h)
-  on_list f (coloured _ _ _ _ _) h = absurd (false≢true h)
-  on_list f (table _ _ _ _) h = absurd (false≢true h)
+  on_list f _ h = absurd (false≢true h)
 
   on_graph : ((vertices : ℕ) (edges : List (ℕ × ℕ)) → P (graph vertices edges)) → (instance : Instance) → is_graph instance ≡ true → P instance
-  on_graph f (pair _ _ _) h = absurd (false≢true h)
-  on_graph f (list _ _) h = absurd (false≢true h)
   on_graph f (graph vertices edges) h = f vertices edges
-  on_graph f (rooted _ _ _ _) h = absurd (false≢true h)
-  on_graph f (coloured _ _ _ _ _) h = absurd (false≢true h)
-  on_graph f (table _ _ _ _) h = absurd (false≢true h)
+  on_graph f _ h = absurd (false≢true h)
 
   on_rooted : ((vertices root : ℕ) (arcs : List (ℕ × ℕ)) (costs : List Weight) → P (rooted vertices root arcs costs)) → (instance : Instance) → is_rooted instance ≡ true → P instance
-  on_rooted f (pair _ _ _) h = absurd (false≢true h)
-  on_rooted f (list _ _) h = absurd (false≢true h)
-  on_rooted f (graph _ _) h = absurd (false≢true h)
   on_rooted f (rooted vertices root arcs costs) h = f vertices root arcs costs
-  on_rooted f (coloured _ _ _ _ _) h = absurd (false≢true h)
-  on_rooted f (table _ _ _ _) h = absurd (false≢true h)
+  on_rooted f _ h = absurd (false≢true h)
 
   on_coloured : ((vertices colours : ℕ) (edges : List (ℕ × ℕ)) (colour_of : List ℕ) (w : List Weight) → P (coloured vertices colours edges colour_of w)) → (instance : Instance) → is_coloured instance ≡ true → P instance
-  on_coloured f (pair _ _ _) h = absurd (false≢true h)
-  on_coloured f (list _ _) h = absurd (false≢true h)
-  on_coloured f (graph _ _) h = absurd (false≢true h)
-  on_coloured f (rooted _ _ _ _) h = absurd (false≢true h)
   on_coloured f (coloured vertices colours edges colour_of w) h = f vertices colours edges colour_of w
-  on_coloured f (table _ _ _ _) h = absurd (false≢true h)
+  on_coloured f _ h = absurd (false≢true h)
 
   on_table : ((rows columns : ℕ) (cells : List (ℕ × ℕ)) (w : List Weight) → P (table rows columns cells w)) → (instance : Instance) → is_table instance ≡ true → P instance
-  on_table f (pair _ _ _) h = absurd (false≢true h)
-  on_table f (list _ _) h = absurd (false≢true h)
-  on_table f (graph _ _) h = absurd (false≢true h)
-  on_table f (rooted _ _ _ _) h = absurd (false≢true h)
-  on_table f (coloured _ _ _ _ _) h = absurd (false≢true h)
   on_table f (table rows columns cells w) h = f rows columns cells w
+  on_table f _ h = absurd (false≢true h)
 
   on_single : ((w : List Weight) (matroid : Tree) → P (list w (matroid ∷ []))) → (instance : Instance) → is_single instance ≡ true → P instance
-  on_single f (list w []) h = absurd (false≢true h)
   on_single f (list w (matroid ∷ [])) h = f w matroid
   on_single f (list w (matroid ∷ other ∷ others)) h =
       let one = eqb-true (length (matroid ∷ other ∷ others)) 1 h in absurd (omega arith)
-  on_single f (pair _ _ _) h = absurd (false≢true h)
-  on_single f (graph _ _) h = absurd (false≢true h)
-  on_single f (rooted _ _ _ _) h = absurd (false≢true h)
-  on_single f (coloured _ _ _ _ _) h = absurd (false≢true h)
-  on_single f (table _ _ _ _) h = absurd (false≢true h)
+  on_single f _ h = absurd (false≢true h)
 
 -- ---- the forms of answers
 
@@ -161,125 +132,21 @@ by_fitting P each (assign n r c rungs cut) instance h =
 -- a right answer fits
 pub right_fits : (instance : Instance) (answer : Certificate) → IsRight instance answer → fits instance answer ≡ true
 right_fits (pair _ _ _) (intersect _ _ _) right = refl
-right_fits (pair _ _ _) (best _ _) right = absurd right
-right_fits (pair _ _ _) (union_of _ _ _ _) right = absurd right
-right_fits (pair _ _ _) (pack_any _) right = absurd right
-right_fits (pair _ _ _) (pack _ _ _) right = absurd right
-right_fits (pair _ _ _) (cover_never _ _) right = absurd right
-right_fits (pair _ _ _) (cover _ _ _) right = absurd right
-right_fits (pair _ _ _) (trees _ _) right = absurd right
-right_fits (pair _ _ _) (trees_none _ _ _ _) right = absurd right
-right_fits (pair _ _ _) (arbor _ _ _ _ _) right = absurd right
-right_fits (pair _ _ _) (unreached _ _ _) right = absurd right
-right_fits (pair _ _ _) (disjoint _ _) right = absurd right
-right_fits (pair _ _ _) (disjoint_none _ _ _ _) right = absurd right
-right_fits (pair _ _ _) (rainbow _ _ _ _ _ _) right = absurd right
-right_fits (pair _ _ _) (assign _ _ _ _ _) right = absurd right
-right_fits (list _ []) (intersect _ _ _) right = absurd right
-right_fits (list _ []) (best _ _) right = absurd right
-right_fits (list _ []) (union_of _ _ _ _) right = refl
-right_fits (list _ []) (pack_any _) right = absurd right
-right_fits (list _ []) (pack _ _ _) right = absurd right
-right_fits (list _ []) (cover_never _ _) right = absurd right
-right_fits (list _ []) (cover _ _ _) right = absurd right
-right_fits (list _ []) (trees _ _) right = absurd right
-right_fits (list _ []) (trees_none _ _ _ _) right = absurd right
-right_fits (list _ []) (arbor _ _ _ _ _) right = absurd right
-right_fits (list _ []) (unreached _ _ _) right = absurd right
-right_fits (list _ []) (disjoint _ _) right = absurd right
-right_fits (list _ []) (disjoint_none _ _ _ _) right = absurd right
-right_fits (list _ []) (rainbow _ _ _ _ _ _) right = absurd right
-right_fits (list _ []) (assign _ _ _ _ _) right = absurd right
-right_fits (list _ (_ ∷ [])) (intersect _ _ _) right = absurd right
+right_fits (list _ _) (union_of _ _ _ _) right = refl
 right_fits (list _ (_ ∷ [])) (best _ _) right = refl
-right_fits (list _ (_ ∷ [])) (union_of _ _ _ _) right = refl
 right_fits (list _ (_ ∷ [])) (pack_any _) right = refl
 right_fits (list _ (_ ∷ [])) (pack _ _ _) right = refl
 right_fits (list _ (_ ∷ [])) (cover_never _ _) right = refl
 right_fits (list _ (_ ∷ [])) (cover _ _ _) right = refl
-right_fits (list _ (_ ∷ [])) (trees _ _) right = absurd right
-right_fits (list _ (_ ∷ [])) (trees_none _ _ _ _) right = absurd right
-right_fits (list _ (_ ∷ [])) (arbor _ _ _ _ _) right = absurd right
-right_fits (list _ (_ ∷ [])) (unreached _ _ _) right = absurd right
-right_fits (list _ (_ ∷ [])) (disjoint _ _) right = absurd right
-right_fits (list _ (_ ∷ [])) (disjoint_none _ _ _ _) right = absurd right
-right_fits (list _ (_ ∷ [])) (rainbow _ _ _ _ _ _) right = absurd right
-right_fits (list _ (_ ∷ [])) (assign _ _ _ _ _) right = absurd right
-right_fits (list _ (_ ∷ _ ∷ _)) (intersect _ _ _) right = absurd right
-right_fits (list _ (_ ∷ _ ∷ _)) (best _ _) right = absurd right
-right_fits (list _ (_ ∷ _ ∷ _)) (union_of _ _ _ _) right = refl
-right_fits (list _ (_ ∷ _ ∷ _)) (pack_any _) right = absurd right
-right_fits (list _ (_ ∷ _ ∷ _)) (pack _ _ _) right = absurd right
-right_fits (list _ (_ ∷ _ ∷ _)) (cover_never _ _) right = absurd right
-right_fits (list _ (_ ∷ _ ∷ _)) (cover _ _ _) right = absurd right
-right_fits (list _ (_ ∷ _ ∷ _)) (trees _ _) right = absurd right
-right_fits (list _ (_ ∷ _ ∷ _)) (trees_none _ _ _ _) right = absurd right
-right_fits (list _ (_ ∷ _ ∷ _)) (arbor _ _ _ _ _) right = absurd right
-right_fits (list _ (_ ∷ _ ∷ _)) (unreached _ _ _) right = absurd right
-right_fits (list _ (_ ∷ _ ∷ _)) (disjoint _ _) right = absurd right
-right_fits (list _ (_ ∷ _ ∷ _)) (disjoint_none _ _ _ _) right = absurd right
-right_fits (list _ (_ ∷ _ ∷ _)) (rainbow _ _ _ _ _ _) right = absurd right
-right_fits (list _ (_ ∷ _ ∷ _)) (assign _ _ _ _ _) right = absurd right
-right_fits (graph _ _) (intersect _ _ _) right = absurd right
-right_fits (graph _ _) (best _ _) right = absurd right
-right_fits (graph _ _) (union_of _ _ _ _) right = absurd right
-right_fits (graph _ _) (pack_any _) right = absurd right
-right_fits (graph _ _) (pack _ _ _) right = absurd right
-right_fits (graph _ _) (cover_never _ _) right = absurd right
-right_fits (graph _ _) (cover _ _ _) right = absurd right
 right_fits (graph _ _) (trees _ _) right = refl
 right_fits (graph _ _) (trees_none _ _ _ _) right = refl
-right_fits (graph _ _) (arbor _ _ _ _ _) right = absurd right
-right_fits (graph _ _) (unreached _ _ _) right = absurd right
-right_fits (graph _ _) (disjoint _ _) right = absurd right
-right_fits (graph _ _) (disjoint_none _ _ _ _) right = absurd right
-right_fits (graph _ _) (rainbow _ _ _ _ _ _) right = absurd right
-right_fits (graph _ _) (assign _ _ _ _ _) right = absurd right
-right_fits (rooted _ _ _ _) (intersect _ _ _) right = absurd right
-right_fits (rooted _ _ _ _) (best _ _) right = absurd right
-right_fits (rooted _ _ _ _) (union_of _ _ _ _) right = absurd right
-right_fits (rooted _ _ _ _) (pack_any _) right = absurd right
-right_fits (rooted _ _ _ _) (pack _ _ _) right = absurd right
-right_fits (rooted _ _ _ _) (cover_never _ _) right = absurd right
-right_fits (rooted _ _ _ _) (cover _ _ _) right = absurd right
-right_fits (rooted _ _ _ _) (trees _ _) right = absurd right
-right_fits (rooted _ _ _ _) (trees_none _ _ _ _) right = absurd right
 right_fits (rooted _ _ _ _) (arbor _ _ _ _ _) right = refl
 right_fits (rooted _ _ _ _) (unreached _ _ _) right = refl
 right_fits (rooted _ _ _ _) (disjoint _ _) right = refl
 right_fits (rooted _ _ _ _) (disjoint_none _ _ _ _) right = refl
-right_fits (rooted _ _ _ _) (rainbow _ _ _ _ _ _) right = absurd right
-right_fits (rooted _ _ _ _) (assign _ _ _ _ _) right = absurd right
-right_fits (coloured _ _ _ _ _) (intersect _ _ _) right = absurd right
-right_fits (coloured _ _ _ _ _) (best _ _) right = absurd right
-right_fits (coloured _ _ _ _ _) (union_of _ _ _ _) right = absurd right
-right_fits (coloured _ _ _ _ _) (pack_any _) right = absurd right
-right_fits (coloured _ _ _ _ _) (pack _ _ _) right = absurd right
-right_fits (coloured _ _ _ _ _) (cover_never _ _) right = absurd right
-right_fits (coloured _ _ _ _ _) (cover _ _ _) right = absurd right
-right_fits (coloured _ _ _ _ _) (trees _ _) right = absurd right
-right_fits (coloured _ _ _ _ _) (trees_none _ _ _ _) right = absurd right
-right_fits (coloured _ _ _ _ _) (arbor _ _ _ _ _) right = absurd right
-right_fits (coloured _ _ _ _ _) (unreached _ _ _) right = absurd right
-right_fits (coloured _ _ _ _ _) (disjoint _ _) right = absurd right
-right_fits (coloured _ _ _ _ _) (disjoint_none _ _ _ _) right = absurd right
 right_fits (coloured _ _ _ _ _) (rainbow _ _ _ _ _ _) right = refl
-right_fits (coloured _ _ _ _ _) (assign _ _ _ _ _) right = absurd right
-right_fits (table _ _ _ _) (intersect _ _ _) right = absurd right
-right_fits (table _ _ _ _) (best _ _) right = absurd right
-right_fits (table _ _ _ _) (union_of _ _ _ _) right = absurd right
-right_fits (table _ _ _ _) (pack_any _) right = absurd right
-right_fits (table _ _ _ _) (pack _ _ _) right = absurd right
-right_fits (table _ _ _ _) (cover_never _ _) right = absurd right
-right_fits (table _ _ _ _) (cover _ _ _) right = absurd right
-right_fits (table _ _ _ _) (trees _ _) right = absurd right
-right_fits (table _ _ _ _) (trees_none _ _ _ _) right = absurd right
-right_fits (table _ _ _ _) (arbor _ _ _ _ _) right = absurd right
-right_fits (table _ _ _ _) (unreached _ _ _) right = absurd right
-right_fits (table _ _ _ _) (disjoint _ _) right = absurd right
-right_fits (table _ _ _ _) (disjoint_none _ _ _ _) right = absurd right
-right_fits (table _ _ _ _) (rainbow _ _ _ _ _ _) right = absurd right
 right_fits (table _ _ _ _) (assign _ _ _ _ _) right = refl
+right_fits instance answer right = absurd right
 
 -- so what holds of each form holds of every right answer
 pub by_right : (P : Instance → Certificate → Type 0) → OnEachForm P → (instance : Instance) (answer : Certificate) → IsRight instance answer

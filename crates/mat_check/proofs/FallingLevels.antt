@@ -15,9 +15,8 @@ abbrev pub line_at : List LevelLine → ℕ → LevelLine
 line_at levels j = get_or levels j (record { at = zero_weight; cut = [] })
 
 pub level_is : (levels : List LevelLine) (j : ℕ) → level_at (map level_of levels) j ≡ level_of (line_at levels j)
-level_is [] j = refl
-level_is (level ∷ levels) zero = refl
 level_is (level ∷ levels) (suc j) = level_is levels j
+level_is _ j = refl
 
 module _ (w : List Weight) (levels : List LevelLine) where
   abbrev lines : List Level

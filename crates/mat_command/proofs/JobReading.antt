@@ -222,7 +222,6 @@ list_jobs view (Err refusal) bytes behind head read = tt
 pub list_fails : {X : Type 0} (view : X → List Job) (result : Result X ListRefusal) (bytes : List ℕ) (behind : LinesLeft)
     → length bytes ≤ description_limit → head_at (record { line = 1; lines = lines_of bytes }) ≡ Ok behind
     → Gives view result (jobs_at most_jobs behind) → IfErr result (λ refusal. HasNoJobs bytes refusal)
-list_fails view (Ok x) bytes behind within head read = tt
-list_fails view (Err Memory) bytes behind within head read = tt
 list_fails view (Err (Line n)) bytes behind within head read =
     record { within = within; first = jobs_of-steps bytes ∙ rw (head, read) refl }
+list_fails view _ bytes behind within head read = tt

@@ -51,7 +51,6 @@ all_take : (command : List ℕ) (arguments : List (List ℕ)) → bytes_eq comma
     → bytes_eq command (codes "cuts") ≡ false → bytes_eq command (codes "convert") ≡ false
     → bytes_eq command (codes "witness") ≡ false → bytes_eq command (codes "verify") ≡ false
     → IfSome (task_for command arguments) (λ task. takes_workers task ≡ true)
-all_take command [] other apart same unwitnessed unverified = tt
 all_take command (file ∷ []) other apart same unwitnessed unverified =
     if_takes (bytes_eq command (codes "batch")) (batch file)
     (if bytes_eq command (codes "convert") then Some (convert file) else option_map (about file) (request_for command)) refl
@@ -63,7 +62,7 @@ all_take command (first ∷ second ∷ third ∷ []) other apart same unwitnesse
     rw unwitnessed (named_takes (bytes_eq command (codes "sample")) (sample_for first second third)
     (sample_takes (kind_in first) (number_up_to most_elements second) (number_up_to 2147483646 third)))
 all_take command (first ∷ second ∷ third ∷ fourth ∷ []) other apart same unwitnessed unverified = rw unverified tt
-all_take command (first ∷ second ∷ third ∷ fourth ∷ fifth ∷ more) other apart same unwitnessed unverified = tt
+all_take command _ other apart same unwitnessed unverified = tt
 
 with_workers : (n : ℕ) (o : Option Task) → IfSome o (λ task. takes_workers task ≡ true)
     → (o >>= λ task. if takes_workers task then Some (by_workers n task) else None)

@@ -74,11 +74,10 @@ IsWithinCaps-from_test sets caps X same h = record { at = at sets caps same h }
         at sets caps (omega arith) (and_parts (leb (length (intersection X S)) cap) (is_within_caps sets caps X) h).1 i (omega arith)
 
 pub test_from-IsWithinCaps : (sets : List (List ℕ)) (caps X : List ℕ) → IsWithinCaps sets caps X → is_within_caps sets caps X ≡ true
-test_from-IsWithinCaps [] caps X w = refl
-test_from-IsWithinCaps (S ∷ sets) [] X w = refl
 test_from-IsWithinCaps (S ∷ sets) (cap ∷ caps) X w =
     and_from (leb (length (intersection X S)) cap) (is_within_caps sets caps X) (le-leb (length (intersection X S)) cap (w.at 0 (omega arith)))
     (test_from-IsWithinCaps sets caps X (record { at = λ i l. w.at (suc i) (omega arith) }))
+test_from-IsWithinCaps _ caps X w = refl
 
 -- ---- lists of sets
 
@@ -211,26 +210,22 @@ filled (S ∷ sets) (cap ∷ caps) I = cond (leb cap (length (intersection I S))
 
 filled-each : (P : List ℕ → Type 0) (sets : List (List ℕ)) (caps I : List ℕ) → Each P sets → Each P (filled sets caps I)
 unfolding filled
-filled-each P [] caps I all = tt
-filled-each P (S ∷ sets) [] I all = tt
 filled-each P (S ∷ sets) (cap ∷ caps) I all = elim (cases_Bool (leb cap (length (intersection I S)))) [
   | inl full ↦ rw full (all.0, filled-each P sets caps I all.1)
   | inr room ↦ rw room (filled-each P sets caps I all.1)
 ]
+filled-each P _ caps I all = tt
 
 filled-nested : (sets : List (List ℕ)) (caps I : List ℕ) → Nested sets → Nested (filled sets caps I)
 unfolding filled
-filled-nested [] caps I nested = tt
-filled-nested (S ∷ sets) [] I nested = tt
 filled-nested (S ∷ sets) (cap ∷ caps) I nested = elim (cases_Bool (leb cap (length (intersection I S)))) [
   | inl full ↦ rw full (filled-each (λ T. crosses S T ≡ false) sets caps I nested.0, filled-nested sets caps I nested.1)
   | inr room ↦ rw room (filled-nested sets caps I nested.1)
 ]
+filled-nested _ caps I nested = tt
 
 filled-most : (sets : List (List ℕ)) (caps I J : List ℕ) → is_within_caps sets caps J ≡ true → Each (AtMost I J) (filled sets caps I)
 unfolding filled
-filled-most [] caps I J h = tt
-filled-most (S ∷ sets) [] I J h = tt
 filled-most (S ∷ sets) (cap ∷ caps) I J h =
     let parts = and_parts (leb (length (intersection J S)) cap) (is_within_caps sets caps J) h in
     let low = leb-true (length (intersection J S)) cap parts.0 in
@@ -238,19 +233,17 @@ filled-most (S ∷ sets) (cap ∷ caps) I J h =
       | inl full ↦ rw full ((let high = leb-true cap (length (intersection I S)) full in omega arith), filled-most sets caps I J parts.1)
       | inr room ↦ rw room (filled-most sets caps I J parts.1)
     ]
+filled-most _ caps I J h = tt
 
 -- ---- sets within the caps
 
 within-nil : (sets : List (List ℕ)) (caps : List ℕ) → is_within_caps sets caps [] ≡ true
-within-nil [] caps = refl
-within-nil (S ∷ sets) [] = refl
 within-nil (S ∷ sets) (cap ∷ caps) = and_from (leb (length (intersection [] S)) cap) (is_within_caps sets caps [])
     (le-leb (length (intersection [] S)) cap (let none = ap length (intersection-none S) in omega arith)) (within-nil sets caps)
+within-nil _ caps = refl
 
 within-subset : (sets : List (List ℕ)) (caps I J : List ℕ) → IsRising I → IsRising J → IsSubset I J → is_within_caps sets caps J ≡ true
     → is_within_caps sets caps I ≡ true
-within-subset [] caps I J r s inside h = refl
-within-subset (S ∷ sets) [] I J r s inside h = refl
 within-subset (S ∷ sets) (cap ∷ caps) I J r s inside h =
     let parts = and_parts (leb (length (intersection J S)) cap) (is_within_caps sets caps J) h in
     let low = leb-true (length (intersection J S)) cap parts.0 in
@@ -258,6 +251,7 @@ within-subset (S ∷ sets) (cap ∷ caps) I J r s inside h =
     let fewer = length-subset _ _ (IsRising-intersection I S r) (IsRising-intersection J S s) less in
     and_from (leb (length (intersection I S)) cap) (is_within_caps sets caps I) (le-leb (length (intersection I S)) cap (omega arith))
     (within-subset sets caps I J r s inside parts.1)
+within-subset _ caps I J r s inside h = refl
 
 -- how many members of X stand in S when x comes to X: one more where x stands in S, and otherwise as many as before
 pub counted_more : (S X : List ℕ) (x : ℕ) → IsRising X → is_member x X ≡ false → is_member x S ≡ true

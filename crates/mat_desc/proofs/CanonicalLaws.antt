@@ -51,7 +51,6 @@ family_lines_spelled naming n (set ∷ family) rest in_range = (
 mutual
   matroid_spelled : (naming : Naming) (n : ℕ) (tree : Tree) (rest : List Line) → IsValidTree n tree
       → MatroidLines naming tree (matroid_lines naming tree ++ rest) rest
-  matroid_spelled naming n (uniform m cap) rest valid = refl
   matroid_spelled naming n (partition m classes caps) rest valid = (
     capped_lines naming (codes "class") classes caps ++ rest,
     refl,
@@ -62,14 +61,12 @@ mutual
     refl,
     capped_lines_spelled naming (codes "set") n sets caps rest valid.1.as_many valid.1.sets_inside,
   )
-  matroid_spelled naming n (graphic vertices edges) rest valid = refl
   matroid_spelled naming n (transversal m family) rest valid = (
     map (listing_line naming (codes "set")) family ++ rest,
     refl,
     family_lines_spelled naming n family rest valid.2,
   )
   matroid_spelled naming n (gammoid vertices arcs sources targets) rest valid = (sources, set_lists vertices sources valid.5, refl)
-  matroid_spelled naming n (gf2 dim columns) rest valid = refl
   matroid_spelled naming n (dual t) rest valid = (matroid_lines naming t ++ rest, refl, matroid_spelled naming n t rest valid)
   matroid_spelled naming n (truncate cap t) rest valid = (matroid_lines naming t ++ rest, refl, matroid_spelled naming n t rest valid.1)
   matroid_spelled naming n (restrict kept t) rest valid =
@@ -77,6 +74,7 @@ mutual
   matroid_spelled naming n (contract away t) rest valid =
       (away, matroid_lines naming t ++ rest, set_lists n away valid.0, refl, matroid_spelled naming n t rest valid.1)
   matroid_spelled naming n (union ts) rest valid = (tree_lines naming ts ++ rest, refl, trees_spelled naming n ts rest valid.2)
+  matroid_spelled naming n _ rest valid = refl
 
   trees_spelled : (naming : Naming) (n : ℕ) (ts : Trees) (rest : List Line) → AreValidTrees n ts
       → TreeLines naming ts (tree_lines naming ts ++ rest) rest
@@ -118,11 +116,8 @@ lines_spelled notation (list weights matroids) valid = (
   refl,
   matroids_spelled (element_naming notation) (length weights) matroids (end_line ∷ []) valid.3,
 )
-lines_spelled notation (graph vertices edges) valid = refl
 lines_spelled numbers (rooted vertices root arcs costs) valid = refl
-lines_spelled (names elements names_of_vertices) (rooted vertices root arcs costs) valid = refl
-lines_spelled notation (coloured vertices colours edges colour_of weights) valid = refl
-lines_spelled notation (table rows columns cells weights) valid = refl
+lines_spelled notation _ valid = refl
 
 -- the canonical text of a problem spells it
 pub canonical_spelled : (instance : Instance) → IsValid instance → Spells (canonical_text instance) instance

@@ -116,8 +116,6 @@ pub classes_again : (naming : Naming) (n : ℕ) → IsNaming n naming → (taken
     → (q : LinesLeft) × (classes_at naming n (length classes) taken p ≡ Ok (classes, caps, q)) × AreLeft rest q
 unfolding classes_at multiplicity
 classes_again naming n named taken p [] [] lines rest small sets apart spelled left = (p, refl, subst (λ (ls : List Line). AreLeft ls p) spelled left)
-classes_again naming n named taken p [] (cap ∷ caps) lines rest small sets apart spelled left = absurd spelled
-classes_again naming n named taken p (class ∷ classes) [] lines rest small sets apart spelled left = absurd spelled
 classes_again naming n named taken p (class ∷ classes) (cap ∷ caps) lines rest small sets apart spelled left =
     let xs = spelled.0 in
     let set = All-head (IsSet n) class classes sets in
@@ -131,6 +129,7 @@ classes_again naming n named taken p (class ∷ classes) (cap ∷ caps) lines re
     let others = classes_again naming n named (with_each taken xs) first.0 classes caps spelled.1 rest
     (All-tail (λ cap. cap ≤ most_elements) cap caps small) (All-tail (IsSet n) class classes sets) later spelled.4 first.2 in
     (others.0, rw (first.1, others.1) refl, others.2)
+classes_again naming n named taken p _ _ lines rest small sets apart spelled left = absurd spelled
 
 -- ---- the classes of a partition
 

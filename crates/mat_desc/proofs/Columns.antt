@@ -13,10 +13,9 @@ zip-push (a ∷ xs) [] x y same = absurd (omega arith)
 zip-push {A} {B} (a ∷ xs) (b ∷ ys) x y same = ap (λ (t : List (A × B)). (a, b) ∷ t) (zip-push xs ys x y (omega arith))
 
 pub length-zip_same : {A B : Type 0} (xs : List A) (ys : List B) → length ys ≡ length xs → length (zip xs ys) ≡ length xs
-length-zip_same [] [] same = refl
-length-zip_same [] (b ∷ ys) same = refl
 length-zip_same (a ∷ xs) [] same = absurd (omega arith)
 length-zip_same (a ∷ xs) (b ∷ ys) same = ap suc (length-zip_same xs ys (omega arith))
+length-zip_same _ _ same = refl
 
 -- one more item of each of three lists
 pub zip-push_two : {A B C : Type 0} (xs : List A) (ys : List B) (zs : List C) (x : A) (y : B) (z : C) → length ys ≡ length xs
@@ -31,22 +30,17 @@ pub colours-zip : (edges : List (ℕ × ℕ)) (colours : List ℕ) (weights : Li
     → length weights ≡ length edges
     → map (λ (e : (ℕ × ℕ) × (ℕ × Weight)). e.1.0) (zip edges (zip colours weights)) ≡ colours
 colours-zip [] [] weights one two = refl
-colours-zip [] (c ∷ colours) weights one two = absurd (omega arith)
-colours-zip (e ∷ edges) [] weights one two = absurd (omega arith)
-colours-zip (e ∷ edges) (c ∷ colours) [] one two = absurd (omega arith)
 colours-zip (e ∷ edges) (c ∷ colours) (w ∷ weights) one two =
     ap (λ (t : List ℕ). c ∷ t) (colours-zip edges colours weights (omega arith) (omega arith))
+colours-zip _ _ weights one two = absurd (omega arith)
 
 pub weights-zip : (edges : List (ℕ × ℕ)) (colours : List ℕ) (weights : List Weight) → length colours ≡ length edges
     → length weights ≡ length edges
     → map (λ (e : (ℕ × ℕ) × (ℕ × Weight)). e.1.1) (zip edges (zip colours weights)) ≡ weights
 weights-zip [] [] [] one two = refl
-weights-zip [] [] (w ∷ weights) one two = absurd (omega arith)
-weights-zip [] (c ∷ colours) weights one two = absurd (omega arith)
-weights-zip (e ∷ edges) [] weights one two = absurd (omega arith)
-weights-zip (e ∷ edges) (c ∷ colours) [] one two = absurd (omega arith)
 weights-zip (e ∷ edges) (c ∷ colours) (w ∷ weights) one two =
     ap (λ (t : List Weight). w ∷ t) (weights-zip edges colours weights (omega arith) (omega arith))
+weights-zip _ _ weights one two = absurd (omega arith)
 
 pub edges-zip : (edges : List (ℕ × ℕ)) (colours : List ℕ) (weights : List Weight) → length colours ≡ length edges
     → length weights ≡ length edges

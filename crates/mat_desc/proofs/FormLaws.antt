@@ -128,19 +128,11 @@ form_found word form is = first (bytes_eq word (codes "pair")) (bytes_eq word (c
 
 pub form_of-form_spelling : (form : Form) → form_of (form_spelling form) ≡ Some form
 form_of-form_spelling forms.Pair = refl
-form_of-form_spelling forms.List = refl
-form_of-form_spelling forms.Graph = refl
-form_of-form_spelling forms.Rooted = refl
-form_of-form_spelling forms.Coloured = refl
-form_of-form_spelling forms.Table = refl
+form_of-form_spelling _ = refl
 
 pub form_word : (form : Form) → is_word (form_spelling form) ≡ true
 form_word forms.Pair = refl
-form_word forms.List = refl
-form_word forms.Graph = refl
-form_word forms.Rooted = refl
-form_word forms.Coloured = refl
-form_word forms.Table = refl
+form_word _ = refl
 
 -- a problem and what stands for its elements and its vertices
 abbrev pub written_as : Instance → Notation → WrittenInstance

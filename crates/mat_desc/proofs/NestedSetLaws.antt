@@ -140,8 +140,6 @@ pub nested_sets_again : (naming : Naming) (n : ℕ) → IsNaming n naming → (e
 unfolding nested_sets_at
 nested_sets_again naming n named earlier p [] [] lines rest small in_range family spelled left =
     (p, refl, subst (λ (ls : List Line). AreLeft ls p) spelled left)
-nested_sets_again naming n named earlier p [] (cap ∷ caps) lines rest small in_range family spelled left = absurd spelled
-nested_sets_again naming n named earlier p (set ∷ sets) [] lines rest small in_range family spelled left = absurd spelled
 nested_sets_again naming n named earlier p (set ∷ sets) (cap ∷ caps) lines rest small in_range family spelled left =
     let here = subst (λ (ls : List Line). AreLeft ls p) spelled.3 left in
     let free = IsLaminarFamily-free earlier set sets family in
@@ -154,6 +152,7 @@ nested_sets_again naming n named earlier p (set ∷ sets) (cap ∷ caps) lines r
     let others = nested_sets_again naming n named (earlier ++ set ∷ []) first.0 sets caps spelled.1 rest others_small others_sets later
     spelled.4 first.2 in
     (others.0, rw (first.1, others.1) refl, others.2)
+nested_sets_again naming n named earlier p _ _ lines rest small in_range family spelled left = absurd spelled
 
 -- ---- the sets of a laminar matroid
 

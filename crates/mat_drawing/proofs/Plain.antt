@@ -6,11 +6,8 @@ use Rattle.mat_drawing.specs.Escaping.{entity, escaped, is_plain}
 
 byte_plain : (b : ℕ) (p q r s : Bool) → (b == 60) ≡ q → (b == 62) ≡ r → (b == 34) ≡ s
     → list_all is_plain (if p then codes "&amp;" else if q then codes "&lt;" else if r then codes "&gt;" else if s then codes "&quot;" else b ∷ []) ≡ true
-byte_plain b true q r s _ _ _ = refl
-byte_plain b false true r s _ _ _ = refl
-byte_plain b false false true s _ _ _ = refl
-byte_plain b false false false true _ _ _ = refl
 byte_plain b false false false false e60 e62 e34 = rw e60 (rw e62 (rw e34 refl))
+byte_plain b _ q r s _ _ _ = refl
 
 entity_plain : (b : ℕ) → list_all is_plain (entity b) ≡ true
 entity_plain b = byte_plain b (b == 38) (b == 60) (b == 62) (b == 34) refl refl refl

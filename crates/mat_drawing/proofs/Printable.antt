@@ -15,11 +15,8 @@ both first second h k = list_all-append is_text_byte first second ∙ and_from (
 
 entity_by_tests : (b : ℕ) (p q r s : Bool) → is_text_byte b ≡ true
     → list_all is_text_byte (if p then codes "&amp;" else if q then codes "&lt;" else if r then codes "&gt;" else if s then codes "&quot;" else b ∷ []) ≡ true
-entity_by_tests b true q r s h = refl
-entity_by_tests b false true r s h = refl
-entity_by_tests b false false true s h = refl
-entity_by_tests b false false false true h = refl
 entity_by_tests b false false false false h = and_from (is_text_byte b) true h refl
+entity_by_tests b _ q r s h = refl
 
 escaped_printable : (bytes : List ℕ) → list_all is_text_byte bytes ≡ true → list_all is_text_byte (escaped bytes) ≡ true
 escaped_printable [] h = refl

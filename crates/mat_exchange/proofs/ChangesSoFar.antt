@@ -246,9 +246,8 @@ module _ (n : ℕ) (b : Exchanges) (w : ℕ → Weight) (R : List ℕ) (total : 
   pub least_sink_at : (top inside : Option Weight) (d : Weight) → IsHeaviestWeightOrNone b.adds (raised w R total) top
       → IsHeaviestWeightOrNone (λ x. b.adds x && is_member x R) w inside → excess_of top inside ≡ Some d
       → IsLeast (IsAdditionSlack n b (raised w R total) R) (d ⊖ total)
-  least_sink_at None inside d h k e = absurd (none_is d e)
-  least_sink_at (Some t) None d h k e = absurd (none_is d e)
   least_sink_at (Some t) (Some u) d h k e = least_sink t u (d ⊖ total) h k (ap (λ o. weight_or_none o ⊖ total) (sym e))
+  least_sink_at _ inside d h k e = absurd (none_is d e)
 
   -- where R has no sink, the heaviest addable weight stays
   top_stays_without : (t d : Weight) → IsHeaviestWeight b.adds (raised w R total) t → ((x : ℕ) → (b.adds x && is_member x R) ≡ false)

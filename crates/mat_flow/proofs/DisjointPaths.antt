@@ -121,11 +121,9 @@ first_of_is [] = refl
 first_of_is (v ∷ rest) = refl
 
 last_of_is : (path : List ℕ) (i : ℕ) → suc i ≡ length path → last_of path ≡ get_or path i 0
-last_of_is [] i e = absurd (omega arith)
 last_of_is (v ∷ []) zero e = refl
-last_of_is (v ∷ []) (suc i) e = absurd (omega arith)
-last_of_is (v ∷ w ∷ rest) zero e = absurd (omega arith)
 last_of_is (v ∷ w ∷ rest) (suc i) e = last_of_is (w ∷ rest) i (omega arith)
+last_of_is _ i e = absurd (omega arith)
 
 arc_to_other : (arcs : List (ℕ × ℕ)) (u v : ℕ) → u ≢ v → leads_to arcs (Some u) v ≡ true → has_arc arcs u v ≡ true
 arc_to_other arcs u v differ h = elim (or_cases (eqb v u) (has_arc arcs u v) h) [

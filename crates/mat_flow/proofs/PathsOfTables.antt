@@ -55,9 +55,8 @@ length-emptied [] = refl
 length-emptied (entry ∷ table) = ap suc (length-emptied table)
 
 entry-emptied : (table : List (Option ℕ)) (v : ℕ) → entry_at (emptied table) v ≡ None
-entry-emptied [] v = refl
-entry-emptied (entry ∷ table) zero = refl
 entry-emptied (entry ∷ table) (suc v) = entry-emptied table v
+entry-emptied _ v = refl
 
 reversing : (before : List (Option ℕ)) → ((v u : ℕ) → entry_at before v ≡ Some u → u < length before) → (n : ℕ) → n ≤ length before
     → (after : List (Option ℕ)) × IsReversing before n after

@@ -20,11 +20,9 @@ IsPath-index arcs (v ∷ w ∷ rest) k long steps =
     (steps 0 (omega arith), IsPath-index arcs (w ∷ rest) (length rest) refl (λ i l. steps (suc i) (omega arith)))
 
 last_of-index : (path : List ℕ) (k : ℕ) → length path ≡ suc k → last_of path ≡ get_or path k 0
-last_of-index [] k long = absurd (omega arith)
 last_of-index (v ∷ []) zero long = refl
-last_of-index (v ∷ []) (suc k) long = absurd (omega arith)
-last_of-index (v ∷ w ∷ rest) zero long = absurd (omega arith)
 last_of-index (v ∷ w ∷ rest) (suc k) long = last_of-index (w ∷ rest) k (omega arith)
+last_of-index _ k long = absurd (omega arith)
 
 module _ (arcs : List (ℕ × ℕ)) (sources : List ℕ) (goal : ℕ → Bool) (avoided : List ℕ) where
   -- a route to a goal, past no other goal and no avoided vertex

@@ -19,9 +19,8 @@ IsPath-rest arcs v (u ∷ []) rest joined = joined.1
 IsPath-rest arcs v (u ∷ w ∷ front) rest joined = IsPath-rest arcs v (w ∷ front) rest joined.1
 
 last_of-rest : (v : ℕ) (front rest : List ℕ) → last_of (front ++ v ∷ rest) ≡ last_of (v ∷ rest)
-last_of-rest v [] rest = refl
-last_of-rest v (u ∷ []) rest = refl
 last_of-rest v (u ∷ w ∷ front) rest = last_of-rest v (w ∷ front) rest
+last_of-rest v _ rest = refl
 
 -- one vertex more in front
 IsPath-cons : (arcs : List (ℕ × ℕ)) (v : ℕ) (path : List ℕ) → has_arc arcs v (first_of path) ≡ true → IsPath arcs path

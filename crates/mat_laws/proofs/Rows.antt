@@ -58,8 +58,7 @@ module _ {independent : List ℕ → Bool} {I found : List ℕ} {x i : ℕ} (c :
 
       swap : (a b d : Bool) → ((a || b) || d) ≡ (b || (a || d))
       swap true true d = refl
-      swap true false d = refl
-      swap false b d = refl
+      swap _ b d = refl
 
       members : (k : ℕ) → (is_member k found' || is_member k remaining) ≡ is_member k (filter (exchanged independent I x) I)
       members k =

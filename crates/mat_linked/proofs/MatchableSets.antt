@@ -17,9 +17,8 @@ use Rattle.mat_linked.specs.Transversals.{is_transversal, lie_in_sets, IsPartial
 -- ---- the first matching
 
 pub entry_at-replicate : (n j : ℕ) → entry_at (replicate n None) j ≡ None
-entry_at-replicate zero j = refl
-entry_at-replicate (suc n) zero = refl
 entry_at-replicate (suc n) (suc j) = entry_at-replicate n j
+entry_at-replicate _ j = refl
 
 pub IsMatching-none : (rows : List (List ℕ)) (n : ℕ) → IsMatching rows [] (replicate n None)
 IsMatching-none rows n = record {

@@ -16,9 +16,8 @@ use Rattle.mat_linked.proofs.MatchableSets.{AreMatchable-part, IsMatching-none}
 -- ---- members that are gone
 
 entry_at-without : (gone : List ℕ) (matched : List (Option ℕ)) (j : ℕ) → entry_at (map (entry_without gone) matched) j ≡ entry_without gone (entry_at matched j)
-entry_at-without gone [] j = refl
-entry_at-without gone (entry ∷ matched) zero = refl
 entry_at-without gone (entry ∷ matched) (suc j) = entry_at-without gone matched j
+entry_at-without gone _ j = refl
 
 -- an element that is left was there, and is not gone
 was_there : (gone : List ℕ) (entry : Option ℕ) (x : ℕ) → entry_without gone entry ≡ Some x → (entry ≡ Some x) × (is_member x gone ≡ false)

@@ -45,11 +45,8 @@ path_below vertices arcs g (v ∷ w ∷ rest) joined first =
 -- ---- five tests at once
 
 five_parts : (a b c d e : Bool) → (a && b && c && d && e) ≡ true → (a ≡ true) × (b ≡ true) × (c ≡ true) × (d ≡ true) × (e ≡ true)
-five_parts false b c d e h = absurd (false≢true h)
-five_parts true false c d e h = absurd (false≢true h)
-five_parts true true false d e h = absurd (false≢true h)
-five_parts true true true false e h = absurd (false≢true h)
 five_parts true true true true e h = (refl, refl, refl, refl, h)
+five_parts _ b c d e h = absurd (false≢true h)
 
 five_from : (a b c d e : Bool) → a ≡ true → b ≡ true → c ≡ true → d ≡ true → e ≡ true → (a && b && c && d && e) ≡ true
 five_from a b c d e p q r s t = rw (p, q, r, s, t) refl

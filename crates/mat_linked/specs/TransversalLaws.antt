@@ -20,10 +20,9 @@ use Rattle.mat_linked.specs.Transversals.{is_transversal, lie_in_sets, IsPartial
 -- as many indices as elements
 length-lie_in_sets : (family : List (List ℕ)) (X indices : List ℕ) → lie_in_sets family X indices ≡ true → length indices ≡ length X
 length-lie_in_sets family [] [] h = refl
-length-lie_in_sets family [] (j ∷ indices) h = absurd (false≢true h)
-length-lie_in_sets family (x ∷ X) [] h = absurd (false≢true h)
 length-lie_in_sets family (x ∷ X) (j ∷ indices) h =
     ap suc (length-lie_in_sets family X indices (and_parts (is_member x (get_or family j [])) (lie_in_sets family X indices) h).1)
+length-lie_in_sets family _ _ h = absurd (false≢true h)
 
 members_below : (n : ℕ) (family : List (List ℕ)) → All (AllBelow n) family → (j x : ℕ)
     → is_member x (get_or family j []) ≡ true → x < n

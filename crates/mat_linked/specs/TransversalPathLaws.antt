@@ -84,8 +84,6 @@ module _ (count : ℕ) (family : List (List ℕ)) where
   on_paths : (X indices : List ℕ) (v : ℕ) → is_member v (concat (paths_along X indices)) ≡ true
       → (is_member v X ≡ true) ⊎ ((j : ℕ) × (is_member j indices ≡ true) × (v ≡ count + j))
   unfolding paths_along
-  on_paths [] indices v m = absurd (false≢true m)
-  on_paths (x ∷ X) [] v m = absurd (false≢true m)
   on_paths (x ∷ X) (j ∷ indices) v m = elim (or_cases (eqb v (count + j)) (eqb v x || is_member v (concat (paths_along X indices))) m) [
     | inl first ↦ inr (j, is_member-head j indices, eqb-true v (count + j) first)
     | inr other ↦ elim (or_cases (eqb v x) (is_member v (concat (paths_along X indices))) other) [
@@ -96,12 +94,11 @@ module _ (count : ℕ) (family : List (List ℕ)) where
       ]
     ]
   ]
+  on_paths _ indices v m = absurd (false≢true m)
 
   paths_along_distinct : (X indices : List ℕ) → AreDistinct X → AllBelow count X → AreDistinct indices
       → AreDistinct (concat (paths_along X indices))
   unfolding paths_along
-  paths_along_distinct [] indices d below e = tt
-  paths_along_distinct (x ∷ X) [] d below e = tt
   paths_along_distinct (x ∷ X) (j ∷ indices) d below e = (
     false_from_ne_true _ (λ m. elim (or_cases (eqb (count + j) x) (is_member (count + j) (concat (paths_along X indices))) m) [
       | inl same ↦ (let q = eqb-true (count + j) x same in let l = below.0 in absurd (omega arith))
@@ -118,6 +115,7 @@ module _ (count : ℕ) (family : List (List ℕ)) where
       paths_along_distinct X indices d.1 below.1 e.1,
     ),
   )
+  paths_along_distinct _ indices d below e = tt
 
   last_of-paths_along : (X indices : List ℕ) → lie_in_sets family X indices ≡ true → map last_of (paths_along X indices) ≡ X
   unfolding paths_along

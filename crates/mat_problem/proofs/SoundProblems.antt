@@ -100,7 +100,4 @@ IsSoundInstance-valid (pair weights first second) valid =
 IsSoundInstance-valid (list weights matroids) valid =
     All-weaker (IsValidMatroid (length weights)) (λ tree. IsSound tree × (element_count tree ≡ length weights))
     (λ tree tree_valid. IsSound-valid (length weights) tree valid.0.0 tree_valid.0) matroids valid.3
-IsSoundInstance-valid (graph vertices edges) valid = tt
-IsSoundInstance-valid (rooted vertices root arcs costs) valid = tt
-IsSoundInstance-valid (coloured vertices colours edges colour_of weights) valid = tt
-IsSoundInstance-valid (table rows columns cells weights) valid = tt
+IsSoundInstance-valid _ valid = tt

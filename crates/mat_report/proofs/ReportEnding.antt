@@ -18,10 +18,9 @@ module _ (says : Saying) (held : List ℕ → Option (List ℕ)) (description ce
   -- there was no text
   refused : (refusal : Refusal) → IsRefusal held (check_of description certificate) before now refusal
       → IsReportEnded says held description certificate before now old out_before old out_now (Err refusal)
-  refused refusals.Usage cause = absurd cause
-  refused refusals.WriteFault cause = absurd cause
   refused (refusals.Unread why) cause = (cause, refl)
   refused (refusals.Denied denial) cause = (cause, refl)
+  refused _ cause = absurd cause
 
   pub ended-refused : (refusal : Refusal) (end : Ended) → IsErrAnd end (λ e. e ≡ refusal)
       → IsRefusal held (check_of description certificate) before now refusal
@@ -34,14 +33,7 @@ module _ (says : Saying) (held : List ℕ → Option (List ℕ)) (description ce
 denied-written : (says : Saying) (held : List ℕ → Option (List ℕ)) (description certificate : List ℕ) (old : Option (List ℕ))
     (denial : Denial) → IsReportWritten says held description certificate old old (status_of_denial denial)
 denied-written says held description certificate old (denials.No reason first second) = refl
-denied-written says held description certificate old (denials.NotShown part) = refl
-denied-written says held description certificate old (denials.BadDescription kind line) = refl
-denied-written says held description certificate old (denials.BadCertificate kind line) = refl
-denied-written says held description certificate old denials.WrongShape = refl
-denied-written says held description certificate old denials.Unwitnessed = refl
-denied-written says held description certificate old (denials.BadWitness kind line) = refl
-denied-written says held description certificate old denials.BadCost = refl
-denied-written says held description certificate old (denials.BadList line) = refl
+denied-written says held description certificate old _ = refl
 
 module _ (says : Saying) (held : List ℕ → Option (List ℕ)) (description certificate : List ℕ) (before now : List ℕ → ℕ)
     (old : Option (List ℕ)) (out_before : ℕ) (new : Option (List ℕ)) (out_now : ℕ) where
@@ -62,7 +54,5 @@ module _ (says : Saying) (held : List ℕ → Option (List ℕ)) (description ce
 
   -- the refusal tells what is so
   pub ended-true : (refusal : Refusal) → Here (Err refusal) → IsTold held (Some (check_of description certificate)) refusal
-  ended-true refusals.WriteFault e = tt
-  ended-true refusals.Usage e = tt
-  ended-true (refusals.Unread why) e = tt
   ended-true (refusals.Denied denial) e = e.0.1
+  ended-true _ e = tt

@@ -212,13 +212,10 @@ changed_next change old others words at l h i = elim (cases_eq i at) [
 -- ---- all bits of other words
 
 either_bit : (a b : ℕ) → a < 2 → b < 2 → eqb (max a b) 1 ≡ (eqb a 1 || eqb b 1)
-either_bit zero zero h k = refl
-either_bit zero (suc zero) h k = refl
-either_bit (suc zero) zero h k = refl
-either_bit (suc zero) (suc zero) h k = refl
 either_bit zero (suc (suc b)) h k = absurd (omega arith)
 either_bit (suc zero) (suc (suc b)) h k = absurd (omega arith)
 either_bit (suc (suc a)) b h k = absurd (omega arith)
+either_bit _ b h k = refl
 
 -- the words before a place have the bits of the others too
 abbrev pub AreUnited : List ℕ → List ℕ → ℕ → List ℕ → Type 0
@@ -252,13 +249,10 @@ abbrev pub AreCleared : List ℕ → List ℕ → ℕ → List ℕ → Type 0
 AreCleared = AreChanged without_bits
 
 left_bit : (a b : ℕ) → a < 2 → b < 2 → eqb (min a (1 - b)) 1 ≡ (eqb a 1 && not (eqb b 1))
-left_bit zero zero h k = refl
-left_bit zero (suc zero) h k = refl
-left_bit (suc zero) zero h k = refl
-left_bit (suc zero) (suc zero) h k = refl
 left_bit zero (suc (suc b)) h k = absurd (omega arith)
 left_bit (suc zero) (suc (suc b)) h k = absurd (omega arith)
 left_bit (suc (suc a)) b h k = absurd (omega arith)
+left_bit _ b h k = refl
 
 -- a bit is left where the other word has none
 bit_left : (a b i : ℕ) → b < 2 ^ 64 → i < 64 → eqb (bit_at (without_bits a b) i) 1 ≡ (eqb (bit_at a i) 1 && not (eqb (bit_at b i) 1))

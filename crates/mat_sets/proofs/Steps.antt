@@ -25,10 +25,8 @@ is_member-take_more (x ∷ t) (suc i) k h = rw (add-one (suc i)) (rest (rw (add-
     rest e = rw e (or_assoc (eqb k x) (is_member k (take i t)) (eqb k (get_or t i 0)))
 
 RisesFrom-take : (lo : ℕ) (xs : List ℕ) (i : ℕ) → RisesFrom lo xs → RisesFrom lo (take i xs)
-RisesFrom-take lo [] zero r = tt
-RisesFrom-take lo [] (suc i) r = tt
-RisesFrom-take lo (x ∷ t) zero r = tt
 RisesFrom-take lo (x ∷ t) (suc i) r = (r.0, RisesFrom-take (suc x) t i r.1)
+RisesFrom-take lo _ _ r = tt
 
 pub IsRising-take : (xs : List ℕ) (i : ℕ) → IsRising xs → IsRising (take i xs)
 IsRising-take xs i r = record { rises = RisesFrom-take 0 xs i r.rises }
@@ -131,10 +129,9 @@ multiplicity-more k (a ∷ t) (suc i) h = rw (add-one (suc i)) (let ih = rw (add
 
 pub family_union-none : (sets : List (List ℕ)) (i : ℕ) → length sets ≤ i → family_union (drop i sets) ≡ []
 unfolding family_union
-family_union-none [] zero h = refl
-family_union-none [] (suc i) h = refl
 family_union-none (a ∷ t) zero h = absurd (omega arith)
 family_union-none (a ∷ t) (suc i) h = family_union-none t i (omega arith)
+family_union-none _ _ h = refl
 
 pub family_union-less : (sets : List (List ℕ)) (i : ℕ) → i < length sets
     → family_union (drop i sets) ≡ union (get_or sets i []) (family_union (drop (i + 1) sets))

@@ -12,14 +12,11 @@ or_assoc false b c = refl
 
 pub or_commute : (a b : Bool) → (a || b) ≡ (b || a)
 or_commute true true = refl
-or_commute true false = refl
-or_commute false true = refl
-or_commute false false = refl
+or_commute _ _ = refl
 
 pub or_swap : (a b c : Bool) → (a || (b || c)) ≡ (b || (a || c))
 or_swap true true c = refl
-or_swap true false c = refl
-or_swap false b c = refl
+or_swap _ b c = refl
 
 pub and_all : (a : Bool) → (a && true) ≡ a
 and_all true = refl
@@ -28,8 +25,7 @@ and_all false = refl
 -- in neither of two
 pub and_neither : (a b c : Bool) → ((a && not b) && not c) ≡ (a && not (b || c))
 and_neither true true c = refl
-and_neither true false c = refl
-and_neither false b c = refl
+and_neither _ b c = refl
 
 -- what is in the first and not left over is in the second
 pub and_not_gives : (a b : Bool) → a ≡ true → (a && not b) ≡ false → b ≡ true

@@ -59,9 +59,8 @@ length-pushed [] last = refl
 length-pushed (r ∷ rungs) last = ap suc (length-pushed rungs last)
 
 weight_at-zeros : (n x : ℕ) → weight_at (replicate n zero_weight) x ≡ zero_weight
-weight_at-zeros zero x = refl
-weight_at-zeros (suc n) zero = refl
 weight_at-zeros (suc n) (suc x) = weight_at-zeros n x
+weight_at-zeros _ x = refl
 
 -- before the first set
 pub AreRungs-start : {n m : ℕ} {p q : List ℕ → Bool} {w : List Weight} {none : List Rung} {rung : Rung} → IsMatroid n p → IsMatroid m q

@@ -22,11 +22,9 @@ slice_get-set_here (x ∷ xs) zero y l = refl
 slice_get-set_here (x ∷ xs) (suc i) y l = slice_get-set_here xs i y (omega arith)
 
 pub slice_get-set_else : {X : Type 0} (xs : List X) (i j : ℕ) (y : X) → (j ≡ i → ⊥) → slice_get (set xs i y) j ≡ slice_get xs j
-slice_get-set_else [] i j y n = refl
 slice_get-set_else (x ∷ xs) zero zero y n = absurd (n refl)
-slice_get-set_else (x ∷ xs) zero (suc j) y n = refl
-slice_get-set_else (x ∷ xs) (suc i) zero y n = refl
 slice_get-set_else (x ∷ xs) (suc i) (suc j) y n = slice_get-set_else xs i j y (λ e. n (ap suc e))
+slice_get-set_else _ i j y n = refl
 
 slice_get-seam : {X : Type 0} (xs ys : List X) (y : X) → slice_get ((xs ++ y ∷ []) ++ ys) (length xs) ≡ Some y
 slice_get-seam [] ys y = refl

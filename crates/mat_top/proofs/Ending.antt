@@ -25,10 +25,9 @@ status_at (Err refusal) = status_of refusal
 pub refused : (held : List ℕ → Option (List ℕ)) (task : Task) (before now : List ℕ → ℕ) (old : Option (List ℕ)) (out_before out_now : ℕ)
     (refusal : Refusal)
     → IsRefusal held task before now refusal → IsEnded held task before now old out_before old out_now (Err refusal)
-refused held task before now old out_before out_now refusals.Usage cause = absurd cause
-refused held task before now old out_before out_now refusals.WriteFault cause = absurd cause
 refused held task before now old out_before out_now (refusals.Unread why) cause = (cause, refl)
 refused held task before now old out_before out_now (refusals.Denied denial) cause = (cause, refl)
+refused held task before now old out_before out_now _ cause = absurd cause
 
 -- where the files deny a call, nothing is written
 denied-written : (held : List ℕ → Option (List ℕ)) (asked : Option Task) (old : Option (List ℕ)) (denial : Denial)

@@ -14,9 +14,8 @@ abbrev pub level_weights : List Level → List Weight
 level_weights levels = map (λ level. level.at) levels
 
 pub level_weight : (levels : List Level) (j : ℕ) → (level_at levels j).at ≡ weight_at (level_weights levels) j
-level_weight [] j = refl
-level_weight (level ∷ levels) zero = refl
 level_weight (level ∷ levels) (suc j) = level_weight levels j
+level_weight _ j = refl
 
 two_below : (a b c d : Weight) → a ≡ b → c ≡ d → a ≺ c → b ≺ d
 two_below a b c d e f l = subst (λ u. b ≺ u) f (subst (λ u. u ≺ c) e l)

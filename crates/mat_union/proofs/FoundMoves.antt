@@ -25,12 +25,11 @@ use Rattle.mat_union.specs.declared.move_search.MoveSearch.{MoveSearch}
 use Rattle.mat_union.specs.declared.moves.Move.{Move}
 
 pub is_member-taken : (k : ℕ) (xs : List ℕ) (z : ℕ) → is_member z (take k xs) ≡ true → is_member z xs ≡ true
-is_member-taken zero xs z h = absurd (false≢true h)
-is_member-taken (suc k) [] z h = absurd (false≢true h)
 is_member-taken (suc k) (x ∷ xs) z h = elim (or_cases (eqb z x) (is_member z (take k xs)) h) [
   | inl a ↦ or_left (eqb z x) (is_member z xs) a
   | inr b ↦ or_right (eqb z x) (is_member z xs) (is_member-taken k xs z b)
 ]
+is_member-taken _ xs z h = absurd (false≢true h)
 
 module _ {n : ℕ} {tests : List (List ℕ → Bool)} {parts : List (List ℕ)} {among : List ℕ} {start : ℕ} {s : MoveSearch} (laws : AreMatroids n tests) (are : AreParts tests parts)
     (reaching : IsReaching n (length parts) (exchanges_with tests parts) among start s) (entered : s.entered ≡ true) (table : List (List ℕ))

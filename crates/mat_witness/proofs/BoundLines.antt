@@ -125,14 +125,9 @@ bound_found n (partition m classes caps) p part q kind e =
     spent_found n (length classes) (partition m classes caps) p part q (λ elements chosen h. h) e
 bound_found n (laminar m sets caps) p part q kind e = spent_found n (length sets) (laminar m sets caps) p part q (λ elements chosen h. h) e
 bound_found n (graphic vertices edges) p part q kind e = labels_found n vertices edges p part q e
-bound_found n (transversal m family) p part q kind e = absurd cc
 bound_found n (gammoid vertices arcs sources targets) p part q kind e = gate_found n vertices arcs sources targets p part q e
 bound_found n (gf2 dim columns) p part q kind e = zeros_found n dim columns p part q e
-bound_found n (dual t) p part q kind e = absurd cc
-bound_found n (truncate cap t) p part q kind e = absurd cc
-bound_found n (restrict kept t) p part q kind e = absurd cc
-bound_found n (contract away t) p part q kind e = absurd cc
-bound_found n (union ts) p part q kind e = absurd cc
+bound_found n _ p part q kind e = absurd cc
 
 -- ---- one bound that is read again
 
@@ -185,34 +180,11 @@ pub bound_again : (n : ℕ) (tree : Tree) (part : BoundPart) (p : LinesLeft) (re
     → AreLeft (bound_lines tree part ++ rest) p → IsReadAgain (bound_at n tree p) part rest
 unfolding bound_at
 bound_again n (uniform m cap) (spent elements chosen) p rest some fits left = spent_again n 1 elements chosen p rest fits left
-bound_again n (uniform m cap) (labels numbers) p rest some fits left = absurd fits
-bound_again n (uniform m cap) (gate reached closing) p rest some fits left = absurd fits
-bound_again n (uniform m cap) (zeros numbers) p rest some fits left = absurd fits
 bound_again n (partition m classes caps) (spent elements chosen) p rest some fits left =
     spent_again n (length classes) elements chosen p rest fits left
-bound_again n (partition m classes caps) (labels numbers) p rest some fits left = absurd fits
-bound_again n (partition m classes caps) (gate reached closing) p rest some fits left = absurd fits
-bound_again n (partition m classes caps) (zeros numbers) p rest some fits left = absurd fits
 bound_again n (laminar m sets caps) (spent elements chosen) p rest some fits left = spent_again n (length sets) elements chosen p rest fits left
-bound_again n (laminar m sets caps) (labels numbers) p rest some fits left = absurd fits
-bound_again n (laminar m sets caps) (gate reached closing) p rest some fits left = absurd fits
-bound_again n (laminar m sets caps) (zeros numbers) p rest some fits left = absurd fits
-bound_again n (graphic vertices edges) (spent elements chosen) p rest some fits left = absurd fits
 bound_again n (graphic vertices edges) (labels numbers) p rest some fits left = labels_again n vertices edges numbers p rest fits.0 fits.1 left
-bound_again n (graphic vertices edges) (gate reached closing) p rest some fits left = absurd fits
-bound_again n (graphic vertices edges) (zeros numbers) p rest some fits left = absurd fits
-bound_again n (transversal m family) part p rest some fits left = absurd fits
-bound_again n (gammoid vertices arcs sources targets) (spent elements chosen) p rest some fits left = absurd fits
-bound_again n (gammoid vertices arcs sources targets) (labels numbers) p rest some fits left = absurd fits
 bound_again n (gammoid vertices arcs sources targets) (gate reached closing) p rest some fits left =
     sets_again (codes "reach") (codes "gate") vertices vertices gate reached closing p rest refl refl fits.0 fits.1 left
-bound_again n (gammoid vertices arcs sources targets) (zeros numbers) p rest some fits left = absurd fits
-bound_again n (gf2 dim columns) (spent elements chosen) p rest some fits left = absurd fits
-bound_again n (gf2 dim columns) (labels numbers) p rest some fits left = absurd fits
-bound_again n (gf2 dim columns) (gate reached closing) p rest some fits left = absurd fits
 bound_again n (gf2 dim columns) (zeros numbers) p rest some fits left = zeros_again n dim columns numbers p rest some fits.0 fits.1 left
-bound_again n (dual t) part p rest some fits left = absurd fits
-bound_again n (truncate cap t) part p rest some fits left = absurd fits
-bound_again n (restrict kept t) part p rest some fits left = absurd fits
-bound_again n (contract away t) part p rest some fits left = absurd fits
-bound_again n (union ts) part p rest some fits left = absurd fits
+bound_again n _ part p rest some fits left = absurd fits

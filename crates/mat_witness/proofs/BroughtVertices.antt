@@ -22,8 +22,7 @@ set_mark touched at v l = elim (cases_eq at v) [
 
 either : (a b c : Bool) → (b || (a || c)) ≡ ((a || b) || c)
 either true true c = refl
-either true false c = refl
-either false b c = refl
+either _ b c = refl
 
 module _ (ends : ℕ → ℕ × ℕ) (pairs : List (ℕ × ℕ)) (i vertices e vertex : ℕ) (touched : List Bool)
     (judging : IsJudging ends pairs i vertices touched) (more : i < length pairs) (here : get_or pairs i (0, 0) ≡ (e, vertex)) where

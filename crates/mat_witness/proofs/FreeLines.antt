@@ -110,14 +110,9 @@ free_found n k (partition m classes caps) p part q kind e =
     as_counted n k (partition m classes caps) p part q tt refl (count_found p part q e)
 free_found n k (laminar m sets caps) p part q kind e = as_counted n k (laminar m sets caps) p part q tt refl (count_found p part q e)
 free_found n k (graphic vertices edges) p part q kind e = forest_found n k vertices edges p part q e
-free_found n k (transversal m family) p part q kind e = absurd cc
 free_found n k (gammoid vertices arcs sources targets) p part q kind e = paths_found n k vertices arcs sources targets p part q e
 free_found n k (gf2 dim columns) p part q kind e = probes_found n k dim columns p part q e
-free_found n k (dual t) p part q kind e = absurd cc
-free_found n k (truncate cap t) p part q kind e = absurd cc
-free_found n k (restrict kept t) p part q kind e = absurd cc
-free_found n k (contract away t) p part q kind e = absurd cc
-free_found n k (union ts) p part q kind e = absurd cc
+free_found n k _ p part q kind e = absurd cc
 
 count_again : (p : LinesLeft) (rest : List Line) → AreLeft ((codes "count" ∷ []) ∷ rest) p
     → IsReadAgain (count_at p) count rest
@@ -158,33 +153,10 @@ pub free_again : (n k : ℕ) (tree : Tree) (part : FreePart) (p : LinesLeft) (re
     → AreLeft (free_lines tree part ++ rest) p → IsReadAgain (free_at n k tree p) part rest
 unfolding free_at
 free_again n k (uniform m cap) count p rest some fits left = count_again p rest left
-free_again n k (uniform m cap) (forest pairs) p rest some fits left = absurd fits
-free_again n k (uniform m cap) (paths lists) p rest some fits left = absurd fits
-free_again n k (uniform m cap) (probes numbers) p rest some fits left = absurd fits
 free_again n k (partition m classes caps) count p rest some fits left = count_again p rest left
-free_again n k (partition m classes caps) (forest pairs) p rest some fits left = absurd fits
-free_again n k (partition m classes caps) (paths lists) p rest some fits left = absurd fits
-free_again n k (partition m classes caps) (probes numbers) p rest some fits left = absurd fits
 free_again n k (laminar m sets caps) count p rest some fits left = count_again p rest left
-free_again n k (laminar m sets caps) (forest pairs) p rest some fits left = absurd fits
-free_again n k (laminar m sets caps) (paths lists) p rest some fits left = absurd fits
-free_again n k (laminar m sets caps) (probes numbers) p rest some fits left = absurd fits
-free_again n k (graphic vertices edges) count p rest some fits left = absurd fits
 free_again n k (graphic vertices edges) (forest pairs) p rest some fits left = forest_again n k vertices edges pairs p rest fits.0 fits.1 left
-free_again n k (graphic vertices edges) (paths lists) p rest some fits left = absurd fits
-free_again n k (graphic vertices edges) (probes numbers) p rest some fits left = absurd fits
-free_again n k (transversal m family) part p rest some fits left = absurd fits
-free_again n k (gammoid vertices arcs sources targets) count p rest some fits left = absurd fits
-free_again n k (gammoid vertices arcs sources targets) (forest pairs) p rest some fits left = absurd fits
 free_again n k (gammoid vertices arcs sources targets) (paths lists) p rest some fits left =
     paths_again n k vertices arcs sources targets lists p rest fits.0 fits.1 left
-free_again n k (gammoid vertices arcs sources targets) (probes numbers) p rest some fits left = absurd fits
-free_again n k (gf2 dim columns) count p rest some fits left = absurd fits
-free_again n k (gf2 dim columns) (forest pairs) p rest some fits left = absurd fits
-free_again n k (gf2 dim columns) (paths lists) p rest some fits left = absurd fits
 free_again n k (gf2 dim columns) (probes numbers) p rest some fits left = probes_again n k dim columns numbers p rest some fits.0 fits.1 left
-free_again n k (dual t) part p rest some fits left = absurd fits
-free_again n k (truncate cap t) part p rest some fits left = absurd fits
-free_again n k (restrict kept t) part p rest some fits left = absurd fits
-free_again n k (contract away t) part p rest some fits left = absurd fits
-free_again n k (union ts) part p rest some fits left = absurd fits
+free_again n k _ part p rest some fits left = absurd fits

@@ -18,38 +18,15 @@ use Rattle.mat_witness.proofs.PathParts.{closing_bound_holds, paths_are_shown}
 pub free_is_shown : (n : ℕ) (tree : Tree) (part : FreePart) (X : List ℕ) → IsSound tree → IsValidTree n tree → IsSet n X
     → IsFreeFor n (length X) tree part → shows_free tree part X ≡ true → is_independent tree X ≡ true
 free_is_shown n (uniform m cap) count X sound valid set for shown = shown
-free_is_shown n (uniform m cap) (forest pairs) X sound valid set for shown = absurd for
-free_is_shown n (uniform m cap) (paths lists) X sound valid set for shown = absurd for
-free_is_shown n (uniform m cap) (probes numbers) X sound valid set for shown = absurd for
 free_is_shown n (partition m classes caps) count X sound valid set for shown = shown
-free_is_shown n (partition m classes caps) (forest pairs) X sound valid set for shown = absurd for
-free_is_shown n (partition m classes caps) (paths lists) X sound valid set for shown = absurd for
-free_is_shown n (partition m classes caps) (probes numbers) X sound valid set for shown = absurd for
 free_is_shown n (laminar m sets caps) count X sound valid set for shown = shown
-free_is_shown n (laminar m sets caps) (forest pairs) X sound valid set for shown = absurd for
-free_is_shown n (laminar m sets caps) (paths lists) X sound valid set for shown = absurd for
-free_is_shown n (laminar m sets caps) (probes numbers) X sound valid set for shown = absurd for
-free_is_shown n (graphic vertices edges) count X sound valid set for shown = absurd for
 free_is_shown n (graphic vertices edges) (forest pairs) X sound valid set for shown =
     forest_is_shown (length edges) (ends_of edges) pairs X (subst (λ m. IsSet m X) (sym valid.0) set) shown
-free_is_shown n (graphic vertices edges) (paths lists) X sound valid set for shown = absurd for
-free_is_shown n (graphic vertices edges) (probes numbers) X sound valid set for shown = absurd for
-free_is_shown n (gammoid vertices arcs sources targets) count X sound valid set for shown = absurd for
-free_is_shown n (gammoid vertices arcs sources targets) (forest pairs) X sound valid set for shown = absurd for
 free_is_shown n (gammoid vertices arcs sources targets) (paths lists) X sound valid set for shown =
     paths_are_shown vertices arcs sources targets lists X sound (subst (λ m. IsSet m X) (sym valid.0) set) for.1 shown
-free_is_shown n (gammoid vertices arcs sources targets) (probes numbers) X sound valid set for shown = absurd for
-free_is_shown n (gf2 dim columns) count X sound valid set for shown = absurd for
-free_is_shown n (gf2 dim columns) (forest pairs) X sound valid set for shown = absurd for
-free_is_shown n (gf2 dim columns) (paths lists) X sound valid set for shown = absurd for
 free_is_shown n (gf2 dim columns) (probes numbers) X sound valid set for shown =
     probes_are_shown dim columns numbers X sound (subst (λ m. IsSet m X) (sym valid.0) set) shown
-free_is_shown n (transversal m family) part X sound valid set for shown = absurd for
-free_is_shown n (dual tree) part X sound valid set for shown = absurd for
-free_is_shown n (truncate cap tree) part X sound valid set for shown = absurd for
-free_is_shown n (restrict kept tree) part X sound valid set for shown = absurd for
-free_is_shown n (contract away tree) part X sound valid set for shown = absurd for
-free_is_shown n (union ts) part X sound valid set for shown = absurd for
+free_is_shown n _ part X sound valid set for shown = absurd for
 
 pub bound_holds : (n : ℕ) (tree : Tree) (part : BoundPart) (F I : List ℕ) → IsSound tree → IsValidTree n tree → IsSet n F
     → IsBoundFor n tree part → shows_bound tree part F ≡ true → is_independent tree I ≡ true → IsSubset I F
@@ -57,40 +34,17 @@ pub bound_holds : (n : ℕ) (tree : Tree) (part : BoundPart) (F I : List ℕ) �
 bound_holds n (uniform m cap) (spent elements chosen) F I sound valid set for shown passes inside =
     uniform_bound_holds m cap elements chosen F I (subst (λ c. IsSet c elements) (sym valid.0) for.elements_inside) for.chosen_inside shown passes
     inside
-bound_holds n (uniform m cap) (labels numbers) F I sound valid set for shown passes inside = absurd for
-bound_holds n (uniform m cap) (gate reached closing) F I sound valid set for shown passes inside = absurd for
-bound_holds n (uniform m cap) (zeros numbers) F I sound valid set for shown passes inside = absurd for
 bound_holds n (partition m classes caps) (spent elements chosen) F I sound valid set for shown passes inside =
     counted_bound_holds m classes caps sound.capped elements chosen F I (subst (λ c. IsSet c elements) (sym valid.0) for.elements_inside)
     for.chosen_inside shown passes inside
-bound_holds n (partition m classes caps) (labels numbers) F I sound valid set for shown passes inside = absurd for
-bound_holds n (partition m classes caps) (gate reached closing) F I sound valid set for shown passes inside = absurd for
-bound_holds n (partition m classes caps) (zeros numbers) F I sound valid set for shown passes inside = absurd for
 bound_holds n (laminar m sets caps) (spent elements chosen) F I sound valid set for shown passes inside =
     counted_bound_holds m sets caps sound.capped elements chosen F I (subst (λ c. IsSet c elements) (sym valid.0) for.elements_inside)
     for.chosen_inside shown passes inside
-bound_holds n (laminar m sets caps) (labels numbers) F I sound valid set for shown passes inside = absurd for
-bound_holds n (laminar m sets caps) (gate reached closing) F I sound valid set for shown passes inside = absurd for
-bound_holds n (laminar m sets caps) (zeros numbers) F I sound valid set for shown passes inside = absurd for
-bound_holds n (graphic vertices edges) (spent elements chosen) F I sound valid set for shown passes inside = absurd for
 bound_holds n (graphic vertices edges) (labels numbers) F I sound valid set for shown passes inside =
     labels_bound_holds vertices edges sound numbers F I for.0 shown passes inside
-bound_holds n (graphic vertices edges) (gate reached closing) F I sound valid set for shown passes inside = absurd for
-bound_holds n (graphic vertices edges) (zeros numbers) F I sound valid set for shown passes inside = absurd for
-bound_holds n (gammoid vertices arcs sources targets) (spent elements chosen) F I sound valid set for shown passes inside = absurd for
-bound_holds n (gammoid vertices arcs sources targets) (labels numbers) F I sound valid set for shown passes inside = absurd for
 bound_holds n (gammoid vertices arcs sources targets) (gate reached closing) F I sound valid set for shown passes inside =
     closing_bound_holds vertices arcs sources targets F I reached closing sound (subst (λ m. IsSet m F) (sym valid.0) set) for.0 for.1 shown passes
     inside
-bound_holds n (gammoid vertices arcs sources targets) (zeros numbers) F I sound valid set for shown passes inside = absurd for
-bound_holds n (gf2 dim columns) (spent elements chosen) F I sound valid set for shown passes inside = absurd for
-bound_holds n (gf2 dim columns) (labels numbers) F I sound valid set for shown passes inside = absurd for
-bound_holds n (gf2 dim columns) (gate reached closing) F I sound valid set for shown passes inside = absurd for
 bound_holds n (gf2 dim columns) (zeros numbers) F I sound valid set for shown passes inside =
     zeros_bound_holds dim columns numbers F I sound (subst (λ m. IsSet m F) (sym valid.0) set) for.0 for.1 shown passes inside
-bound_holds n (transversal m family) part F I sound valid set for shown passes inside = absurd for
-bound_holds n (dual tree) part F I sound valid set for shown passes inside = absurd for
-bound_holds n (truncate cap tree) part F I sound valid set for shown passes inside = absurd for
-bound_holds n (restrict kept tree) part F I sound valid set for shown passes inside = absurd for
-bound_holds n (contract away tree) part F I sound valid set for shown passes inside = absurd for
-bound_holds n (union ts) part F I sound valid set for shown passes inside = absurd for
+bound_holds n _ part F I sound valid set for shown passes inside = absurd for

@@ -42,9 +42,8 @@ use Rattle.mat_witness.proofs.ListedMembers.{list_all-from}
 both_zip : {A B : Type 0} (R : A → B → Type 0) (xs ys : List A) (us vs : List B) → AllZip R xs us → AllZip R ys vs
     → AllZip R (xs ++ ys) (us ++ vs)
 both_zip R [] ys [] vs a b = b
-both_zip R [] ys (u ∷ us) vs a b = absurd a
-both_zip R (x ∷ xs) ys [] vs a b = absurd a
 both_zip R (x ∷ xs) ys (u ∷ us) vs a b = (a.0, both_zip R xs ys us vs a.1 b)
+both_zip R _ ys _ vs a b = absurd a
 
 -- ---- the matroids
 
@@ -115,9 +114,8 @@ met_next tree listed bounds i item bound inside is all met =
 pub all_are_met : (tree : Tree) (listed : List Asked) (bounds : List Most) → AllZip (IsMetBy tree) listed bounds
     → AllZip (IsMeeting (element_count tree)) (map (demand_for tree) listed) (map bound_part bounds)
 all_are_met tree [] [] all = tt
-all_are_met tree [] (bound ∷ bounds) all = absurd all
-all_are_met tree (demand ∷ listed) [] all = absurd all
 all_are_met tree (demand ∷ listed) (bound ∷ bounds) all = (all.0, all_are_met tree listed bounds all.1)
+all_are_met tree _ _ all = absurd all
 
 -- ---- the bounds of a rung
 
@@ -125,9 +123,8 @@ module _ (n : ℕ) where
   meeting_kinds : (ds : List Demand) (ps qs : List BoundPart) (trees : List Tree) → AllZip (IsMeeting n) ds ps → AreBoundsFor n trees qs
       → AreBoundsFor n (map (λ demand. demand.tree) ds ++ trees) (ps ++ qs)
   meeting_kinds [] [] qs trees a b = b
-  meeting_kinds [] (p ∷ ps) qs trees a b = absurd a
-  meeting_kinds (d ∷ ds) [] qs trees a b = absurd a
   meeting_kinds (d ∷ ds) (p ∷ ps) qs trees a b = (a.0.kind, meeting_kinds ds ps qs trees a.1 b)
+  meeting_kinds _ _ qs _ a b = absurd a
 
   meeting_met : (ds : List Demand) (ps qs : List BoundPart) → AllZip (IsMeeting n) ds ps → are_met ds (ps ++ qs) ≡ true
   meeting_met [] ps qs a = refl
@@ -136,9 +133,8 @@ module _ (n : ℕ) where
 
   meeting_rest : (ds : List Demand) (ps qs : List BoundPart) → AllZip (IsMeeting n) ds ps → drop (length ds) (ps ++ qs) ≡ qs
   meeting_rest [] [] qs a = refl
-  meeting_rest [] (p ∷ ps) qs a = absurd a
-  meeting_rest (d ∷ ds) [] qs a = absurd a
   meeting_rest (d ∷ ds) (p ∷ ps) qs a = meeting_rest ds ps qs a.1
+  meeting_rest _ _ qs a = absurd a
 
 -- those of both halves and those for the cut, one after the other
 pub rung_bounds_joined : (first second : Tree) (k : ℕ) (rung : PricedRung) (cut : List ℕ) (last : ℕ)

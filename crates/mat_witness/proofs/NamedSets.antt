@@ -176,10 +176,9 @@ unnamed_by_table sets caps I count table X inside named =
 
 -- an entry that is asked for
 pub unnamed_where_none : (entry : Option ℕ) (answer : Bool) → is_some entry ≡ not answer → is_unnamed entry ≡ answer
-unnamed_where_none None true is = refl
 unnamed_where_none None false is = absurd (both_ways false refl is)
 unnamed_where_none (Some i) true is = absurd (both_ways false refl (sym is))
-unnamed_where_none (Some i) false is = refl
+unnamed_where_none _ _ is = refl
 
 pub none_since : (entry : Option ℕ) → ((i : ℕ) → entry ≡ Some i → ⊥) → entry ≡ None
 none_since None never = refl

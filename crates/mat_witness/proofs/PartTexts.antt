@@ -93,9 +93,8 @@ one_matroid view (suc many) tree trees (bound ∷ bounds) few =
 -- as many as there are matroids
 length-bounds : (n : ℕ) (trees : List Tree) (parts : List BoundPart) → AreBoundsFor n trees parts → length parts ≡ length trees
 length-bounds n [] [] fits = refl
-length-bounds n [] (part ∷ parts) fits = absurd fits
-length-bounds n (tree ∷ trees) [] fits = absurd fits
 length-bounds n (tree ∷ trees) (part ∷ parts) fits = ap suc (length-bounds n trees parts fits.1)
+length-bounds n _ _ fits = absurd fits
 
 pub length-viewed : {A : Type 0} (view : A → BoundPart) (n : ℕ) (trees : List Tree) (bounds : List A) → AreBoundsFor n trees (map view bounds)
     → length bounds ≡ length trees

@@ -50,10 +50,7 @@ failing a b c d = if not a then Some 1 else (if not b then Some 2 else (if not c
 
 four_hold : (a b c d : Bool) → failing a b c d ≡ None → FourHold a b c d
 four_hold true true true true e = record { first_holds = refl; second_holds = refl; third_holds = refl; fourth_holds = refl }
-four_hold true true true false e = absurd (cc)
-four_hold true true false d e = absurd (cc)
-four_hold true false c d e = absurd (cc)
-four_hold false b c d e = absurd (cc)
+four_hold _ b c d e = absurd (cc)
 
 module _ {X : Type 0} (P : X → Type 0) where
   joined : (xs ys : List X) → AllByRecursion P xs → AllByRecursion P ys → AllByRecursion P (xs ++ ys)
@@ -172,22 +169,4 @@ pub shown_is_best : (instance : Instance) (answer : Certificate) (k : ℕ) (witn
     → IsWitnessFor instance answer k witness → IsShown instance answer k witness → IsProvedRung instance answer k
 shown_is_best (pair w first second) (intersect n rungs cut) k witness valid kinds ranged has for shown =
     pair_is_proved w first second (IsSoundInstance-valid (pair w first second) valid) valid.1.0 valid.2.0 rungs cut k n witness ranged has for shown
-shown_is_best (pair w first second) (best n rungs) k witness valid kinds ranged has for shown = absurd for
-shown_is_best (pair w first second) (union_of n weight parts levels) k witness valid kinds ranged has for shown = absurd for
-shown_is_best (pair w first second) (pack_any n) k witness valid kinds ranged has for shown = absurd for
-shown_is_best (pair w first second) (pack n bases cut) k witness valid kinds ranged has for shown = absurd for
-shown_is_best (pair w first second) (cover_never n loop_at) k witness valid kinds ranged has for shown = absurd for
-shown_is_best (pair w first second) (cover n sets cut) k witness valid kinds ranged has for shown = absurd for
-shown_is_best (pair w first second) (trees n sets) k witness valid kinds ranged has for shown = absurd for
-shown_is_best (pair w first second) (trees_none n m vertices classes) k witness valid kinds ranged has for shown = absurd for
-shown_is_best (pair w first second) (arbor n cost arcs half other) k witness valid kinds ranged has for shown = absurd for
-shown_is_best (pair w first second) (unreached n vertices set) k witness valid kinds ranged has for shown = absurd for
-shown_is_best (pair w first second) (disjoint n sets) k witness valid kinds ranged has for shown = absurd for
-shown_is_best (pair w first second) (disjoint_none n m vertices set) k witness valid kinds ranged has for shown = absurd for
-shown_is_best (pair w first second) (rainbow n vertices colours rungs cut missing) k witness valid kinds ranged has for shown = absurd for
-shown_is_best (pair w first second) (assign n rows columns rungs cut) k witness valid kinds ranged has for shown = absurd for
-shown_is_best (list w matroids) answer k witness valid kinds ranged has for shown = absurd for
-shown_is_best (graph vertices edges) answer k witness valid kinds ranged has for shown = absurd for
-shown_is_best (rooted vertices root arcs costs) answer k witness valid kinds ranged has for shown = absurd for
-shown_is_best (coloured vertices colours edges colour_of w) answer k witness valid kinds ranged has for shown = absurd for
-shown_is_best (table rows columns cells w) answer k witness valid kinds ranged has for shown = absurd for
+shown_is_best _ answer k _ valid kinds ranged has for shown = absurd for

@@ -54,11 +54,9 @@ module _ (rows : List (List ℕ)) (path : List ℕ) (below : AllBelow (length ro
 
 -- the last vertex by its place
 pub last_of-get_or : (path : List ℕ) (k : ℕ) → length path ≡ suc k → last_of path ≡ get_or path k 0
-last_of-get_or [] k long = absurd (omega arith)
 last_of-get_or (v ∷ []) zero long = refl
-last_of-get_or (v ∷ []) (suc k) long = absurd (omega arith)
-last_of-get_or (v ∷ w ∷ rest) zero long = absurd (omega arith)
 last_of-get_or (v ∷ w ∷ rest) (suc k) long = last_of-get_or (w ∷ rest) k (omega arith)
+last_of-get_or _ k long = absurd (omega arith)
 
 -- the last vertices of the first paths, and of one path more
 last_of-more : (lists : List (List ℕ)) (i : ℕ) (path : List ℕ) → i < length lists → path ≡ get_or lists i path → 0 < length path

@@ -81,10 +81,9 @@ met_in_turn (demand ∷ firsts) seconds (part ∷ parts) =
 
 drop_more : (firsts seconds : List Demand) (parts : List BoundPart)
     → drop (length (firsts ++ seconds)) parts ≡ drop (length seconds) (drop (length firsts) parts)
-drop_more [] seconds parts = refl
 drop_more (demand ∷ firsts) [] [] = refl
-drop_more (demand ∷ firsts) (other ∷ seconds) [] = refl
 drop_more (demand ∷ firsts) seconds (part ∷ parts) = drop_more firsts seconds parts
+drop_more _ seconds parts = refl
 
 none_told : (met : Bool) (m : ℕ) → None ≡ (if met then Some m else None) → met ≡ false
 none_told true m told = absurd (none-some m told)

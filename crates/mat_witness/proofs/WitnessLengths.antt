@@ -117,48 +117,24 @@ gate_bytes vertices reached closing few one two =
 bound_bytes : (n : ℕ) (tree : Tree) (part : BoundPart) → n ≤ most_elements → IsValidTree n tree → IsBoundFor n tree part
     → bytes (bound_lines tree part) ≤ 20000
 bound_bytes n (uniform m cap) (spent elements chosen) few valid fits = spent_bytes n 1 elements chosen few (omega arith) fits
-bound_bytes n (uniform m cap) (labels numbers) few valid fits = absurd fits
-bound_bytes n (uniform m cap) (gate reached closing) few valid fits = absurd fits
-bound_bytes n (uniform m cap) (zeros numbers) few valid fits = absurd fits
 bound_bytes n (partition m classes caps) (spent elements chosen) few valid fits =
     spent_bytes n (length classes) elements chosen few (omega (arith, valid.1.few)) fits
-bound_bytes n (partition m classes caps) (labels numbers) few valid fits = absurd fits
-bound_bytes n (partition m classes caps) (gate reached closing) few valid fits = absurd fits
-bound_bytes n (partition m classes caps) (zeros numbers) few valid fits = absurd fits
 bound_bytes n (laminar m sets caps) (spent elements chosen) few valid fits =
     spent_bytes n (length sets) elements chosen few (omega (arith, valid.1.few)) fits
-bound_bytes n (laminar m sets caps) (labels numbers) few valid fits = absurd fits
-bound_bytes n (laminar m sets caps) (gate reached closing) few valid fits = absurd fits
-bound_bytes n (laminar m sets caps) (zeros numbers) few valid fits = absurd fits
-bound_bytes n (graphic vertices edges) (spent elements chosen) few valid fits = absurd fits
 bound_bytes n (graphic vertices edges) (labels numbers) few valid fits = labels_bytes vertices numbers valid.2 fits.0 fits.1
-bound_bytes n (graphic vertices edges) (gate reached closing) few valid fits = absurd fits
-bound_bytes n (graphic vertices edges) (zeros numbers) few valid fits = absurd fits
-bound_bytes n (transversal m family) part few valid fits = absurd fits
-bound_bytes n (gammoid vertices arcs sources targets) (spent elements chosen) few valid fits = absurd fits
-bound_bytes n (gammoid vertices arcs sources targets) (labels numbers) few valid fits = absurd fits
 bound_bytes n (gammoid vertices arcs sources targets) (gate reached closing) few valid fits = gate_bytes vertices reached closing valid.2 fits.0 fits.1
-bound_bytes n (gammoid vertices arcs sources targets) (zeros numbers) few valid fits = absurd fits
-bound_bytes n (gf2 dim columns) (spent elements chosen) few valid fits = absurd fits
-bound_bytes n (gf2 dim columns) (labels numbers) few valid fits = absurd fits
-bound_bytes n (gf2 dim columns) (gate reached closing) few valid fits = absurd fits
 bound_bytes n (gf2 dim columns) (zeros numbers) few valid fits = zeros_bytes dim numbers valid.2 fits.0
-bound_bytes n (dual t) part few valid fits = absurd fits
-bound_bytes n (truncate cap t) part few valid fits = absurd fits
-bound_bytes n (restrict kept t) part few valid fits = absurd fits
-bound_bytes n (contract away t) part few valid fits = absurd fits
-bound_bytes n (union ts) part few valid fits = absurd fits
+bound_bytes n _ part few valid fits = absurd fits
 
 bounds_bytes : (n : ℕ) (trees : List Tree) (parts : List BoundPart) → n ≤ most_elements → All (IsValidTree n) trees
     → AreBoundsFor n trees parts → bytes (bounds_lines trees parts) ≤ 20000 * length trees
 bounds_bytes n [] [] few valid fits = omega arith
-bounds_bytes n [] (part ∷ parts) few valid fits = absurd fits
-bounds_bytes n (tree ∷ trees) [] few valid fits = absurd fits
 bounds_bytes n (tree ∷ trees) (part ∷ parts) few valid fits =
     let one = bound_bytes n tree part few (All-head (IsValidTree n) tree trees valid) fits.0 in
     let others = bounds_bytes n trees parts few (All-tail (IsValidTree n) tree trees valid) fits.1 in
     let both = bytes-append (bound_lines tree part) (bounds_lines trees parts) in
     omega (arith, one, others, both)
+bounds_bytes n _ _ few valid fits = absurd fits
 
 -- ---- parts that show independence
 
@@ -221,37 +197,14 @@ count_bytes = omega arith
 free_bytes : (n k : ℕ) (tree : Tree) (part : FreePart) (X : List ℕ) → n ≤ most_elements → k ≤ most_elements → IsValidTree n tree
     → IsFreeFor n k tree part → shows_free tree part X ≡ true → bytes (free_lines tree part) ≤ 100000
 free_bytes n k (uniform m cap) count X few small valid fits shown = count_bytes
-free_bytes n k (uniform m cap) (forest pairs) X few small valid fits shown = absurd fits
-free_bytes n k (uniform m cap) (paths lists) X few small valid fits shown = absurd fits
-free_bytes n k (uniform m cap) (probes numbers) X few small valid fits shown = absurd fits
 free_bytes n k (partition m classes caps) count X few small valid fits shown = count_bytes
-free_bytes n k (partition m classes caps) (forest pairs) X few small valid fits shown = absurd fits
-free_bytes n k (partition m classes caps) (paths lists) X few small valid fits shown = absurd fits
-free_bytes n k (partition m classes caps) (probes numbers) X few small valid fits shown = absurd fits
 free_bytes n k (laminar m sets caps) count X few small valid fits shown = count_bytes
-free_bytes n k (laminar m sets caps) (forest pairs) X few small valid fits shown = absurd fits
-free_bytes n k (laminar m sets caps) (paths lists) X few small valid fits shown = absurd fits
-free_bytes n k (laminar m sets caps) (probes numbers) X few small valid fits shown = absurd fits
-free_bytes n k (graphic vertices edges) count X few small valid fits shown = absurd fits
 free_bytes n k (graphic vertices edges) (forest pairs) X few small valid fits shown =
     forest_bytes n k vertices pairs few small valid.2 fits.0 fits.1
-free_bytes n k (graphic vertices edges) (paths lists) X few small valid fits shown = absurd fits
-free_bytes n k (graphic vertices edges) (probes numbers) X few small valid fits shown = absurd fits
-free_bytes n k (transversal m family) part X few small valid fits shown = absurd fits
-free_bytes n k (gammoid vertices arcs sources targets) count X few small valid fits shown = absurd fits
-free_bytes n k (gammoid vertices arcs sources targets) (forest pairs) X few small valid fits shown = absurd fits
 free_bytes n k (gammoid vertices arcs sources targets) (paths lists) X few small valid fits shown =
     paths_bytes k vertices lists small valid.2 fits.0 fits.1 (and_parts _ (are_distinct (concat lists)) (and_parts _ _ shown).1).1
-free_bytes n k (gammoid vertices arcs sources targets) (probes numbers) X few small valid fits shown = absurd fits
-free_bytes n k (gf2 dim columns) count X few small valid fits shown = absurd fits
-free_bytes n k (gf2 dim columns) (forest pairs) X few small valid fits shown = absurd fits
-free_bytes n k (gf2 dim columns) (paths lists) X few small valid fits shown = absurd fits
 free_bytes n k (gf2 dim columns) (probes numbers) X few small valid fits shown = probes_bytes k dim numbers small valid.2 fits.0
-free_bytes n k (dual t) part X few small valid fits shown = absurd fits
-free_bytes n k (truncate cap t) part X few small valid fits shown = absurd fits
-free_bytes n k (restrict kept t) part X few small valid fits shown = absurd fits
-free_bytes n k (contract away t) part X few small valid fits shown = absurd fits
-free_bytes n k (union ts) part X few small valid fits shown = absurd fits
+free_bytes n k _ part X few small valid fits shown = absurd fits
 
 -- ---- how many bounds there are
 
@@ -351,22 +304,4 @@ text_short (pair w first second) (intersect n rungs cut) k witness valid ranged 
       ranges.second_half,
     ) in
     witness_bytes first second trees witness (omega (arith, fits.same, ranges.few)) one two bounds many
-text_short (pair w first second) (certificates.best _ _) k witness valid ranged has fits shown = absurd fits
-text_short (pair w first second) (certificates.union_of _ _ _ _) k witness valid ranged has fits shown = absurd fits
-text_short (pair w first second) (certificates.pack_any _) k witness valid ranged has fits shown = absurd fits
-text_short (pair w first second) (certificates.pack _ _ _) k witness valid ranged has fits shown = absurd fits
-text_short (pair w first second) (certificates.cover_never _ _) k witness valid ranged has fits shown = absurd fits
-text_short (pair w first second) (certificates.cover _ _ _) k witness valid ranged has fits shown = absurd fits
-text_short (pair w first second) (certificates.trees _ _) k witness valid ranged has fits shown = absurd fits
-text_short (pair w first second) (certificates.trees_none _ _ _ _) k witness valid ranged has fits shown = absurd fits
-text_short (pair w first second) (certificates.arbor _ _ _ _ _) k witness valid ranged has fits shown = absurd fits
-text_short (pair w first second) (certificates.unreached _ _ _) k witness valid ranged has fits shown = absurd fits
-text_short (pair w first second) (certificates.disjoint _ _) k witness valid ranged has fits shown = absurd fits
-text_short (pair w first second) (certificates.disjoint_none _ _ _ _) k witness valid ranged has fits shown = absurd fits
-text_short (pair w first second) (certificates.rainbow _ _ _ _ _ _) k witness valid ranged has fits shown = absurd fits
-text_short (pair w first second) (certificates.assign _ _ _ _ _) k witness valid ranged has fits shown = absurd fits
-text_short (instances.list _ _) answer k witness valid ranged has fits shown = absurd fits
-text_short (instances.graph _ _) answer k witness valid ranged has fits shown = absurd fits
-text_short (instances.rooted _ _ _ _) answer k witness valid ranged has fits shown = absurd fits
-text_short (instances.coloured _ _ _ _ _) answer k witness valid ranged has fits shown = absurd fits
-text_short (instances.table _ _ _ _) answer k witness valid ranged has fits shown = absurd fits
+text_short _ answer k _ valid ranged has fits shown = absurd fits

@@ -101,14 +101,13 @@ pub bounds_again : (n : ℕ) (trees : List Tree) (parts : List BoundPart) (p : L
     → AreBoundsFor n trees parts → AreLeft (bounds_lines trees parts ++ rest) p → IsReadAgain (bounds_at n trees p) parts rest
 unfolding bounds_at
 bounds_again n [] [] p rest some fits left = (p, refl, left)
-bounds_again n [] (part ∷ parts) p rest some fits left = absurd fits
-bounds_again n (tree ∷ trees) [] p rest some fits left = absurd fits
 bounds_again n (tree ∷ trees) (part ∷ parts) p rest some fits left =
     let front : AreLeft (bound_lines tree part ++ (bounds_lines trees parts ++ rest)) p =
     subst (λ (ls : List Line). AreLeft ls p) (append_assoc (bound_lines tree part) (bounds_lines trees parts) rest) left in
     let first = bound_again n tree part p (bounds_lines trees parts ++ rest) (All-head HasDigits tree trees some) fits.0 front in
     let others = bounds_again n trees parts first.0 rest (All-tail HasDigits tree trees some) fits.1 first.2 in
     (others.0, rw (first.1, others.1) refl, others.2)
+bounds_again n _ _ p rest some fits left = absurd fits
 
 -- ---- a whole witness
 

@@ -29,18 +29,8 @@ use Rattle.mat_witness.proofs.WitnessLines.{whole_text, witness_found, witness_a
 
 -- a matroid in range has digits, where it has columns
 has_digits : (n : ℕ) (tree : Tree) → IsValidTree n tree → HasDigits tree
-has_digits n (uniform m cap) valid = tt
-has_digits n (partition m classes caps) valid = tt
-has_digits n (laminar m sets caps) valid = tt
-has_digits n (graphic vertices edges) valid = tt
-has_digits n (transversal m family) valid = tt
-has_digits n (gammoid vertices arcs sources targets) valid = tt
 has_digits n (gf2 dim columns) valid = valid.1
-has_digits n (dual t) valid = tt
-has_digits n (truncate cap t) valid = tt
-has_digits n (restrict kept t) valid = tt
-has_digits n (contract away t) valid = tt
-has_digits n (union ts) valid = tt
+has_digits n _ valid = tt
 
 -- a text that is read is the text of the witness that was read, which is one for the rung
 pub text_found : (instance : Instance) (answer : Certificate) (k : ℕ) (text : List ℕ) (witness : WitnessParts) → is_witnessed_pair instance ≡ true
@@ -64,25 +54,7 @@ text_found (pair w first second) (intersect n rungs cut) k text witness kinds e 
       },
       read.1,
     )
-text_found (pair w first second) (certificates.best _ _) k text witness kinds e = absurd cc
-text_found (pair w first second) (certificates.union_of _ _ _ _) k text witness kinds e = absurd cc
-text_found (pair w first second) (certificates.pack_any _) k text witness kinds e = absurd cc
-text_found (pair w first second) (certificates.pack _ _ _) k text witness kinds e = absurd cc
-text_found (pair w first second) (certificates.cover_never _ _) k text witness kinds e = absurd cc
-text_found (pair w first second) (certificates.cover _ _ _) k text witness kinds e = absurd cc
-text_found (pair w first second) (certificates.trees _ _) k text witness kinds e = absurd cc
-text_found (pair w first second) (certificates.trees_none _ _ _ _) k text witness kinds e = absurd cc
-text_found (pair w first second) (certificates.arbor _ _ _ _ _) k text witness kinds e = absurd cc
-text_found (pair w first second) (certificates.unreached _ _ _) k text witness kinds e = absurd cc
-text_found (pair w first second) (certificates.disjoint _ _) k text witness kinds e = absurd cc
-text_found (pair w first second) (certificates.disjoint_none _ _ _ _) k text witness kinds e = absurd cc
-text_found (pair w first second) (certificates.rainbow _ _ _ _ _ _) k text witness kinds e = absurd cc
-text_found (pair w first second) (certificates.assign _ _ _ _ _) k text witness kinds e = absurd cc
-text_found (instances.list _ _) answer k text witness kinds e = absurd cc
-text_found (instances.graph _ _) answer k text witness kinds e = absurd cc
-text_found (instances.rooted _ _ _ _) answer k text witness kinds e = absurd cc
-text_found (instances.coloured _ _ _ _ _) answer k text witness kinds e = absurd cc
-text_found (instances.table _ _ _ _) answer k text witness kinds e = absurd cc
+text_found _ answer k text _ kinds e = absurd cc
 
 -- the text of a witness for the rung is read as that witness
 pub text_again : (instance : Instance) (answer : Certificate) (k : ℕ) (text : List ℕ) (witness : WitnessParts) → IsValid instance
@@ -104,25 +76,7 @@ text_again (pair w first second) (intersect n rungs cut) k text witness valid fi
       second_part = fits.second_part;
       bound_parts = fits.bound_parts;
     }) whole
-text_again (pair w first second) (certificates.best _ _) k text witness valid fits whole = absurd fits
-text_again (pair w first second) (certificates.union_of _ _ _ _) k text witness valid fits whole = absurd fits
-text_again (pair w first second) (certificates.pack_any _) k text witness valid fits whole = absurd fits
-text_again (pair w first second) (certificates.pack _ _ _) k text witness valid fits whole = absurd fits
-text_again (pair w first second) (certificates.cover_never _ _) k text witness valid fits whole = absurd fits
-text_again (pair w first second) (certificates.cover _ _ _) k text witness valid fits whole = absurd fits
-text_again (pair w first second) (certificates.trees _ _) k text witness valid fits whole = absurd fits
-text_again (pair w first second) (certificates.trees_none _ _ _ _) k text witness valid fits whole = absurd fits
-text_again (pair w first second) (certificates.arbor _ _ _ _ _) k text witness valid fits whole = absurd fits
-text_again (pair w first second) (certificates.unreached _ _ _) k text witness valid fits whole = absurd fits
-text_again (pair w first second) (certificates.disjoint _ _) k text witness valid fits whole = absurd fits
-text_again (pair w first second) (certificates.disjoint_none _ _ _ _) k text witness valid fits whole = absurd fits
-text_again (pair w first second) (certificates.rainbow _ _ _ _ _ _) k text witness valid fits whole = absurd fits
-text_again (pair w first second) (certificates.assign _ _ _ _ _) k text witness valid fits whole = absurd fits
-text_again (instances.list _ _) answer k text witness valid fits whole = absurd fits
-text_again (instances.graph _ _) answer k text witness valid fits whole = absurd fits
-text_again (instances.rooted _ _ _ _) answer k text witness valid fits whole = absurd fits
-text_again (instances.coloured _ _ _ _ _) answer k text witness valid fits whole = absurd fits
-text_again (instances.table _ _ _ _) answer k text witness valid fits whole = absurd fits
+text_again _ answer k text _ valid fits whole = absurd fits
 
 -- ---- the rung of an answer
 

@@ -25,14 +25,12 @@ length-binary zero z = refl
 length-binary (suc d) z = ap suc (length-binary d z)
 
 digit_known : (b : ℕ) → b < 2 → (eqb (48 + b) 48 || eqb (48 + b) 49) ≡ true
-digit_known zero h = refl
-digit_known (suc zero) h = refl
 digit_known (suc (suc b)) h = absurd (omega arith)
+digit_known _ h = refl
 
 digit_letter : (b : ℕ) → b < 2 → is_letter (48 + b) ≡ true
-digit_letter zero h = refl
-digit_letter (suc zero) h = refl
 digit_letter (suc (suc b)) h = absurd (omega arith)
+digit_letter _ h = refl
 
 pub is_binary-binary : (d z : ℕ) → is_binary (binary d z) ≡ true
 is_binary-binary zero z = refl

@@ -13,15 +13,7 @@ spent_inside : (n : ℕ) (tree : Tree) (elements chosen : List ℕ) → IsBoundF
 spent_inside n (uniform m cap) elements chosen for = IsSet-length n elements for.elements_inside
 spent_inside n (partition m classes caps) elements chosen for = IsSet-length n elements for.elements_inside
 spent_inside n (laminar m sets caps) elements chosen for = IsSet-length n elements for.elements_inside
-spent_inside n (graphic vertices edges) elements chosen for = absurd for
-spent_inside n (transversal m family) elements chosen for = absurd for
-spent_inside n (gammoid vertices arcs sources targets) elements chosen for = absurd for
-spent_inside n (gf2 dim columns) elements chosen for = absurd for
-spent_inside n (dual tree) elements chosen for = absurd for
-spent_inside n (truncate cap tree) elements chosen for = absurd for
-spent_inside n (restrict kept tree) elements chosen for = absurd for
-spent_inside n (contract away tree) elements chosen for = absurd for
-spent_inside n (union ts) elements chosen for = absurd for
+spent_inside n _ elements chosen for = absurd for
 
 few_spent : (n : ℕ) (tree : Tree) (part : BoundPart) (elements chosen : List ℕ) → part ≡ spent elements chosen → IsBoundFor n tree part
     → n ≤ most_elements → length elements ≤ most_elements

@@ -23,15 +23,13 @@ two_bounds : (first second : Tree) (n : ℕ) (cut outside : List ℕ) (last : �
     → Some x ≡ (if shows_bound first (bound_part part) outside then Some (bound_of first (bound_part part)) else None)
     → Some y ≡ (if shows_bound second (bound_part other) cut then Some (bound_of second (bound_part other)) else None)
     → leb (x + y) last ≡ bounds_common_sets first second n cut last (map bound_part parts)
-two_bounds first second n cut outside last [] part other x y most few at_part at_other is e f = absurd (omega arith)
-two_bounds first second n cut outside last (p ∷ []) part other x y most few at_part at_other is e f = absurd (omega arith)
-two_bounds first second n cut outside last (p ∷ q ∷ r ∷ parts) part other x y most few at_part at_other is e f = absurd (omega arith)
 two_bounds first second n cut outside last (p ∷ q ∷ []) part other x y most few at_part at_other is e f =
     both_told (shows_bound first (bound_part p) (minus (all_below n) cut)) (shows_bound second (bound_part q) cut) x y (bound_of first (bound_part p))
     (bound_of second (bound_part q)) last
     (e ∙ ap (λ s. if shows_bound first (bound_part part) s then Some (bound_of first (bound_part part)) else None) is
     ∙ ap (λ s. if shows_bound first (bound_part s) (minus (all_below n) cut) then Some (bound_of first (bound_part s)) else None) at_part)
     (f ∙ ap (λ s. if shows_bound second (bound_part s) cut then Some (bound_of second (bound_part s)) else None) at_other)
+two_bounds first second n cut outside last _ part other x y most few at_part at_other is e f = absurd (omega arith)
 
 pub bound_shown-requires-clause-set : goal.bound_shown-requires-clause-set
 bound_shown-requires-clause-set c =
