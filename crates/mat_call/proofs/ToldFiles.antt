@@ -4,7 +4,7 @@ use Rattle.std.specs.Prelude.{◌↔◌, is_some, unwrap_or, IsErr, OnOk, IfSome
 use Rattle.std.proofs.lemmas.Bool.{cases_Bool}
 use Rattle.mat_shelf.specs.Faults.{Rose}
 use Rattle.mat_shelf.specs.Files.{FileState, has_name, held_in, count_in}
-use Rattle.mat_command.specs.CommandLines.{Request, show, solve, cuts, check, witness, verify, Task, about, sample, batch, convert}
+use Rattle.mat_command.specs.CommandLines.{Request, check, witness, verify, Task, about, batch}
 use Rattle.mat_command.specs.JobLists.{Job}
 use Rattle.mat_top.specs.Outcomes.{TellsCertificate, TellsJobs, Tells}
 use Rattle.mat_call.specs.GivenShelves.{no_text, told_in, missing_count}

@@ -1,5 +1,5 @@
 -- The levels of an answer are those of the distinct weights, falling, exactly where their weights are these, one by one.
-use Rattle.std.proofs.Common.{◌≡◌, ℕ, zero, suc, ◌<◌, List, [], ◌∷◌, length, map, get_or, refl, sym, ap, ◌∙◌, subst}
+use Rattle.std.proofs.Common.{◌≡◌, ℕ, suc, ◌<◌, List, [], ◌∷◌, length, map, get_or, refl, sym, ap, ◌∙◌, subst}
 use Rattle.std.proofs.lemmas.List.{length-map, same_lists, get_or_default}
 use Rattle.mat_sets.specs.FallingWeights.{falling_weights}
 use Rattle.mat_sets.specs.Weights.{weight_at, zero_weight}

@@ -8,8 +8,8 @@ use Rattle.std.proofs.lemmas.List.Elements.{All-head, All-tail}
 use Rattle.mat_sets.specs.Sets.{IsSet}
 use Rattle.mat_sets.proofs.Ground.{AreDistinct-rising}
 use Rattle.mat_words.specs.Lines.{Line}
-use Rattle.mat_any.specs.Trees.{Tree, Trees, uniform, partition, laminar, graphic, transversal, gammoid, gf2, dual, truncate, restrict, contract, union, no_trees, more_trees}
-use Rattle.mat_problem.specs.Instances.{Instance, pair, list, graph, rooted, coloured, table}
+use Rattle.mat_any.specs.Trees.{Tree, Trees, partition, laminar, transversal, gammoid, dual, truncate, restrict, contract, union, no_trees, more_trees}
+use Rattle.mat_problem.specs.Instances.{Instance, pair, list, rooted}
 use Rattle.mat_words.specs.Writing.{end_line}
 use Rattle.mat_desc.specs.Notations.{Naming, Notation, numbers, names, element_naming, IsNotationFor, NamedInstance}
 use Rattle.mat_desc.specs.Grammar.{Lists, listing_line, CappedLines, FamilyLines, MatroidLines, MatroidsLines, TreeLines}

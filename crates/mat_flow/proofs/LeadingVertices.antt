@@ -14,17 +14,6 @@ use Rattle.mat_flow.specs.Leading.{AreLedFrom, AreLeading, IsLed}
 
 -- ---- a round
 
-pub AreLedFrom-none : (n : ℕ) (arc : ℕ → ℕ → Bool) (old : List ℕ) → ((v : ℕ) → is_member v old ≡ true → v < n) → AreLedFrom n arc 0 old old false
-AreLedFrom-none n arc old below = record {
-  below = below;
-  more = λ v m. m;
-  rising = λ r. r;
-  long = λ r. omega arith;
-  longer = λ r e. absurd (false≢true e);
-  least = λ f s t v m. s v m;
-  closed = λ e w v l. absurd (omega arith);
-}
-
 module _ (n : ℕ) (arc : ℕ → ℕ → Bool) (u : ℕ) (old now : List ℕ) (came : Bool) (h : AreLedFrom n arc u old now came) where
   -- a vertex is put in
   pub AreLedFrom-more : u < n → IsLed arc u now true → AreLedFrom n arc (u + 1) old (with_one now u) true

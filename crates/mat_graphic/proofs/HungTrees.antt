@@ -1,9 +1,7 @@
 -- A rooted forest gets one edge more. Outside the tree of its second end all vertices stay as they are, as two of them are in one component afterwards
 -- only if they were before; the tree itself is read from the second end on, first up to its root and then down.
-use Rattle.std.proofs.Common.{◌≡◌, ◌≢◌, ℕ, zero, suc, ◌+◌, ◌-◌, ◌<◌, ◌≤◌, min, Bool, true, false, ◌||◌, eqb, List, [], ◌∷◌, ◌++◌, length, length-append, get_or, ◌⊎◌, inl, inr, refl, sym, ap, ◌∙◌, subst, arith}
-use Rattle.std.proofs.lemmas.Bool.{both_ways, cases_Bool, cases_eq, cases_lt, eqb-true, eq-eqb, or_cases, or_left, or_right, false≢true}
-use Rattle.std.proofs.Math.Seq.{get_or-append_seam}
-use Rattle.std.proofs.lemmas.List.{get_or_append_left}
+use Rattle.std.proofs.Common.{◌≡◌, ◌≢◌, ℕ, zero, suc, ◌+◌, ◌-◌, ◌<◌, ◌≤◌, min, Bool, true, false, ◌||◌, eqb, List, [], ◌∷◌, ◌++◌, length, get_or, ◌⊎◌, inl, inr, refl, sym, ap, ◌∙◌, subst, arith}
+use Rattle.std.proofs.lemmas.Bool.{both_ways, cases_Bool, cases_eq, cases_lt, eqb-true, eq-eqb, or_cases, or_left, or_right}
 use Rattle.mat_sets.specs.Graphs.{Joins}
 use Rattle.mat_sets.specs.Sets.{is_member}
 use Rattle.mat_sets.proofs.Members.{is_member-get_or, place_of_member}
@@ -15,7 +13,7 @@ use Rattle.mat_graphic.specs.RootedForests.{IsRootedForest}
 use Rattle.mat_graphic.specs.TrailSearches.{IsFindable, IsFront, IsOrder, IsTree}
 use Rattle.mat_graphic.specs.declared.rooted_forest.RootedForest.{RootedForest}
 use Rattle.mat_graphic.proofs.Roots.{component_at, roots-differ, same-before}
-use Rattle.mat_graphic.proofs.TrailScans.{IsFront-member, IsFront-refl, IsFront-trans}
+use Rattle.mat_graphic.proofs.TrailScans.{IsFront-member, IsFront-trans}
 
 -- ---- components
 
@@ -43,52 +41,6 @@ merged_apart p q r s other another same = elim (merged_cases p q r) [
     not_least x n m e = elim (min_is p q) [ inl f ↦ n (e ∙ f) | inr f ↦ m (e ∙ f) ]
 
 -- ---- the flags of a tree
-
--- the flags of the first places
-pub record AreFirstFlags (before : List ℕ) (root at : ℕ) (inside : List Bool) : Type 0 where
-  pub long : length inside ≡ at
-  pub root_is : (k : ℕ) → k < at → get_or before k 0 ≡ k → get_or inside k false ≡ eqb k root
-  pub same : (k : ℕ) → k < at → get_or before k 0 < k → get_or inside k false ≡ get_or inside (get_or before k 0) false
-
-pub AreFirstFlags-none : (before : List ℕ) (root : ℕ) (inside : List Bool) → inside ≡ [] → AreFirstFlags before root 0 inside
-AreFirstFlags-none before root inside none = record {
-  long = ap length none;
-  root_is = λ k l. absurd (omega arith);
-  same = λ k l. absurd (omega arith);
-}
-
-module _ (before : List ℕ) (root at : ℕ) (inside : List Bool) (flag : Bool) (h : AreFirstFlags before root at inside) where
-  earlier_flag : (k : ℕ) → k < at → get_or (inside ++ flag ∷ []) k false ≡ get_or inside k false
-  earlier_flag k l = get_or_append_left inside (flag ∷ []) false k (let long = h.long in omega arith)
-
-  own_flag : get_or (inside ++ flag ∷ []) at false ≡ flag
-  own_flag = ap (λ k. get_or (inside ++ flag ∷ []) k false) (sym h.long) ∙ get_or-append_seam inside flag [] false
-
-  pub AreFirstFlags-more : (get_or before at 0 ≡ at → flag ≡ eqb at root) → (get_or before at 0 < at → flag ≡ get_or inside (get_or before at 0) false)
-      → AreFirstFlags before root (at + 1) (inside ++ flag ∷ [])
-  AreFirstFlags-more own child = record {
-    long = (let all = length-append inside (flag ∷ []) in let long = h.long in omega arith);
-    root_is = λ k l e. elim (cases_eq k at) [
-      | inl same ↦ ap (λ i. get_or (inside ++ flag ∷ []) i false) same ∙ own_flag
-          ∙ own (ap (λ i. get_or before i 0) (sym same) ∙ e ∙ same) ∙ ap (λ i. eqb i root) (sym same)
-      | inr other ↦ earlier_flag k (omega arith) ∙ h.root_is k (omega arith) e
-    ];
-    same = λ k l e. elim (cases_eq k at) [
-      | inl same ↦
-          let down : get_or before at 0 < at = subst (λ i. get_or before i 0 < i) same e in
-          ap (λ i. get_or (inside ++ flag ∷ []) i false) same ∙ own_flag ∙ child down ∙ sym (earlier_flag (get_or before at 0) down)
-          ∙ ap (λ i. get_or (inside ++ flag ∷ []) (get_or before i 0) false) (sym same)
-      | inr other ↦ earlier_flag k (omega arith) ∙ h.same k (omega arith) e ∙ sym (earlier_flag (get_or before k 0) (omega arith))
-    ];
-  }
-
-pub AreFlags-all : (before : List ℕ) (root at : ℕ) (inside : List Bool) → at ≡ length before → AreFirstFlags before root at inside
-    → AreFlags before root inside
-AreFlags-all before root at inside all h = record {
-  long = h.long ∙ all;
-  root_is = λ k l. h.root_is k (omega arith);
-  same = λ k l. h.same k (omega arith);
-}
 
 -- the flags tell the tree of the root
 pub flags_tell : (ends : ℕ → ℕ × ℕ) (X : List ℕ) (forest : RootedForest) (root : ℕ) (inside : List Bool)
@@ -137,24 +89,6 @@ outside_apart ends edge first second X Y forest root inside o f t small top same
         ∙ eq-eqb _ _ (e ∙ ap (λ p. least_merged ends X p.1) n.ends_are ∙ sym same))
 
 -- ---- vertices outside the tree
-
-pub IsCopied-none : (forest new : RootedForest) (inside : List Bool)
-    → IsOrder new.place.items new.order.items new.through.items new.before.items → new.order.items ≡ []
-    → length new.place.items ≡ length forest.place.items → IsCopied forest inside 0 new
-IsCopied-none forest new inside o none long = record {
-  long = long;
-  ordered = o;
-  come = λ v m. absurd (false≢true (sym (ap (is_member v) none) ∙ m));
-  found = λ k l. absurd (omega arith);
-  tree = λ ends X Y t s. record {
-    member = λ k l. absurd (nothing k l);
-    joined = λ k l. absurd (nothing k l);
-    apart = λ k l. absurd (nothing k l);
-  };
-}
-  where
-    nothing : (k : ℕ) → k < length new.order.items → ⊥
-    nothing k l = (let e = ap length none in omega (arith, l, e))
 
 pub IsCopied-passed : (forest new : RootedForest) (inside : List Bool) (at : ℕ) → get_or inside at false ≡ true → IsCopied forest inside at new
     → IsCopied forest inside (at + 1) new
@@ -235,18 +169,6 @@ joins_back : (ends : ℕ → ℕ × ℕ) (e v u : ℕ) → Joins ends e v u → 
 joins_back ends e v u (inl p) = inr p
 joins_back ends e v u (inr p) = inl p
 
-pub IsTurning-start : (forest : RootedForest) (edge first second at : ℕ) (old : RootedForest)
-    → IsOrder old.place.items old.order.items old.through.items old.before.items → at < length forest.order.items
-    → get_or forest.order.items at 0 ≡ second → is_member first old.order.items ≡ true → IsTurning forest edge first second old at edge first old
-IsTurning-start forest edge first second at old o small here found = record {
-  long = refl;
-  ordered = o;
-  front = IsFront-refl old.order.items;
-  inside = small;
-  below_found = found;
-  tree = λ ends X Y t m e j before. (before, e, subst (λ v. Joins ends edge v first) (sym here) j);
-}
-
 module _ (forest : RootedForest) (edge first second : ℕ) (old : RootedForest) (at through below : ℕ) (now new : RootedForest)
     (h : IsTurning forest edge first second old at through below now) (vertex place : ℕ) (here : vertex ≡ get_or forest.order.items at 0)
     (inner : place < length now.order.items) (there : get_or now.order.items place 0 ≡ below) (long : length new.place.items ≡ length now.place.items)
@@ -291,15 +213,6 @@ module _ (forest : RootedForest) (edge first second : ℕ) (old : RootedForest) 
   }
 
 -- ---- the others
-
-pub IsHung-none : (forest old : RootedForest) → IsOrder old.place.items old.order.items old.through.items old.before.items → IsHung forest old 0 old
-IsHung-none forest old o = record {
-  long = refl;
-  ordered = o;
-  front = IsFront-refl old.order.items;
-  found = λ k l. absurd (omega arith);
-  tree = λ ends X Y t m before. before;
-}
 
 pub IsHung-passed : (forest old new : RootedForest) (at : ℕ) → is_member (get_or forest.order.items at 0) old.order.items ≡ true
     → IsHung forest old at new → IsHung forest old (at + 1) new

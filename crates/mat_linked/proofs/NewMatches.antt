@@ -1,6 +1,6 @@
 -- Members that are gone are taken out of a matching, and new ones are matched beside the others: where the whole set can be matched, each part
 -- of it can, and so each new member finds its set.
-use Rattle.std.proofs.Common.{◌≡◌, ℕ, ◌+◌, ◌<◌, ◌≤◌, Bool, true, false, cond, List, [], ◌∷◌, length, map, get_or, replicate, take, zero, suc, arith, Option, Some, None, inl, inr, refl, sym, ap, ◌∙◌, subst}
+use Rattle.std.proofs.Common.{◌≡◌, ℕ, ◌+◌, ◌<◌, ◌≤◌, Bool, true, false, cond, List, [], ◌∷◌, length, map, get_or, replicate, take, suc, arith, Option, Some, None, inl, inr, refl, sym, ap, ◌∙◌, subst}
 use Rattle.std.proofs.lemmas.Bool.{cases_Bool}
 use Rattle.mat_sets.specs.Sets.{intersection, is_member, minus, union, with_one, AllBelow, IsRising, IsSubset}
 use Rattle.mat_sets.proofs.DisjointSets.{minus_from, minus_parts}

@@ -10,7 +10,7 @@ use Rattle.mat_any.specs.Trees.{gf2, dual, truncate, restrict, contract, union, 
 use Rattle.mat_sets.specs.Limits.{most_elements}
 use Rattle.mat_problem.specs.Limits.{most_digits}
 use Rattle.mat_problem.specs.Validity.{IsPairBelow, IsValidTree, IsValidMatroid, AreValidTrees, IsValid}
-use Rattle.mat_problem.specs.Instances.{Instance, pair, list, graph, rooted, coloured, table}
+use Rattle.mat_problem.specs.Instances.{Instance, pair, list, graph}
 use Rattle.mat_problem.specs.Soundness.{IsSoundInstance}
 
 -- edges or arcs with both ends among the vertices are those of a graph

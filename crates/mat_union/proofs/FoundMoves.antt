@@ -1,6 +1,6 @@
 -- The moves along a shortest walk of the arcs that a search knows: all its elements but the last are told, so that it has no shortcut among
 -- all arcs either, and no element but the last can be added.
-use Rattle.std.proofs.Common.{Global, Vec, ◌≡◌, ℕ, suc, zero, ◌<◌, ◌≤◌, Bool, true, false, eqb, List, [], ◌∷◌, length, get_or, take, inl, inr, refl, sym, ap, ◌∙◌, subst, arith}
+use Rattle.std.proofs.Common.{Global, Vec, ◌≡◌, ℕ, suc, ◌<◌, ◌≤◌, Bool, true, false, eqb, List, [], ◌∷◌, length, get_or, take, inl, inr, refl, sym, ap, ◌∙◌, subst, arith}
 use Rattle.std.proofs.lemmas.Bool.{both_ways, cases_Bool, cases_eq, eq-eqb, eqb-true, false≢true, or_cases, or_left, or_right}
 use Rattle.std.proofs.lemmas.List.{length-map}
 use Rattle.mat_sets.specs.Families.{family_union}

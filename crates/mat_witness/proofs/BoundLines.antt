@@ -17,7 +17,7 @@ use Rattle.mat_words.proofs.LineReading.{AreLeft}
 use Rattle.mat_words.proofs.NumberLemmas.{numeral_word}
 use Rattle.mat_words.proofs.ReadingSteps.{found-same, bind_found, told_again}
 use Rattle.mat_words.proofs.WordReading.{numerals_words, size_again}
-use Rattle.mat_any.specs.Trees.{Tree, uniform, partition, laminar, graphic, transversal, gammoid, gf2, dual, truncate, restrict, contract, union}
+use Rattle.mat_any.specs.Trees.{Tree, uniform, partition, laminar, graphic, gammoid, gf2}
 use Rattle.mat_cert.specs.LineReading.{below_at, counted_at, set_at, size_at}
 use Rattle.mat_cert.specs.Faults.{Fault, kind_of}
 use Rattle.mat_cert.proofs.LineLaws.{IsRead, IsReadAgain, set_found, set_again}

@@ -11,7 +11,7 @@ use Rattle.mat_words.specs.Writing.{members_line}
 use Rattle.mat_words.proofs.LineReading.{AreLeft}
 use Rattle.mat_words.proofs.ReadingSteps.{found-same, bind_found}
 use Rattle.mat_words.proofs.WordReading.{numerals_words}
-use Rattle.mat_any.specs.Trees.{Tree, uniform, partition, laminar, graphic, transversal, gammoid, gf2, dual, truncate, restrict, contract, union}
+use Rattle.mat_any.specs.Trees.{Tree, uniform, partition, laminar, graphic, gammoid, gf2}
 use Rattle.mat_cert.specs.LineReading.{counted_at}
 use Rattle.mat_cert.specs.Faults.{Fault}
 use Rattle.mat_cert.proofs.LineLaws.{IsRead, IsReadAgain}

@@ -3,7 +3,7 @@
 use Rattle.std.proofs.Common.{◌≡◌, ℕ, ◌≤◌, true, List, length, sym, subst}
 use Rattle.mat_sets.specs.Graphs.{ends_of}
 use Rattle.mat_sets.specs.Sets.{IsSet, IsSubset}
-use Rattle.mat_any.specs.Trees.{Tree, uniform, partition, laminar, graphic, transversal, gammoid, gf2, dual, truncate, restrict, contract, union}
+use Rattle.mat_any.specs.Trees.{Tree, uniform, partition, laminar, graphic, gammoid, gf2}
 use Rattle.mat_any.specs.Trees.{is_independent, IsSound}
 use Rattle.mat_problem.specs.Validity.{IsValidTree}
 use Rattle.mat_witness.specs.BoundParts.{bound_of, shows_bound}

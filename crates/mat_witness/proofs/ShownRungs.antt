@@ -1,6 +1,6 @@
 -- What a witness shows of a rung. Its first part gives the weight of the set and the split; its second and third parts that the set is heaviest
 -- of its size under both halves; and its fourth bounds each common independent set, which lies in part outside the cut and in part inside it.
-use Rattle.std.proofs.Common.{◌≡◌, ℕ, ◌+◌, ◌≤◌, Bool, true, false, not, ◌&&◌, if◌then◌else◌, eqb, leb, ltb, List, [], ◌∷◌, ◌++◌, length, drop, Option}
+use Rattle.std.proofs.Common.{◌≡◌, ℕ, ◌+◌, ◌≤◌, Bool, true, not, ◌&&◌, if◌then◌else◌, eqb, leb, ltb, List, [], ◌∷◌, ◌++◌, length, drop, Option}
 use Rattle.std.proofs.Common.{Some, None, slice_get, refl, sym, subst, arith}
 use Rattle.std.proofs.lemmas.Bool.{and_parts, eqb-true, leb-true, ltb-true}
 use Rattle.std.proofs.lemmas.Option.{slice_get-get_or}
@@ -19,11 +19,10 @@ use Rattle.mat_laws.proofs.BestLadders.{rung_is_heaviest}
 use Rattle.mat_any.specs.TreeLaws.{tree_laws}
 use Rattle.mat_any.specs.Trees.{Tree, element_count, is_independent, IsSound}
 use Rattle.mat_cert.specs.Certificates.{Certificate, IsRanged, IsRangedLadder, IsRangedPricedRung, last_rung}
-use Rattle.mat_cert.specs.Certificates.{intersect, best, union_of, pack_any, pack, cover_never, cover, trees, trees_none}
-use Rattle.mat_cert.specs.Certificates.{arbor, unreached, disjoint, disjoint_none, rainbow, assign}
+use Rattle.mat_cert.specs.Certificates.{intersect}
 use Rattle.mat_cert.specs.declared.answer.PricedRung.{PricedRung}
 use Rattle.mat_problem.specs.Validity.{IsValid, IsValidTree}
-use Rattle.mat_problem.specs.Instances.{Instance, pair, list, graph, rooted, coloured, table}
+use Rattle.mat_problem.specs.Instances.{Instance, pair}
 use Rattle.mat_problem.proofs.SoundProblems.{IsSoundInstance-valid}
 use Rattle.mat_witness.specs.BoundParts.{bound_of, shows_bound}
 use Rattle.mat_witness.specs.FreeParts.{shows_free}

@@ -22,7 +22,7 @@ use Rattle.mat_words.specs.Numbers.{numeral, numerals}
 use Rattle.mat_words.specs.Writing.{end_line, members_line}
 use Rattle.mat_words.proofs.BinaryLaws.{length-binary}
 use Rattle.mat_words.proofs.LineLemmas.{text_of-append}
-use Rattle.mat_any.specs.Trees.{Tree, uniform, partition, laminar, graphic, transversal, gammoid, gf2, dual, truncate, restrict, contract, union}
+use Rattle.mat_any.specs.Trees.{Tree, uniform, partition, laminar, graphic, gammoid, gf2}
 use Rattle.mat_problem.specs.Validity.{IsValid, IsValidTree}
 use Rattle.mat_problem.specs.Instances as instances
 use Rattle.mat_problem.specs.Instances.{Instance, pair}

@@ -7,7 +7,7 @@ use Rattle.std.proofs.lemmas.Option.{slice_get_read}
 use Rattle.std.proofs.lemmas.Bool.{and_parts, ltb-true}
 use Rattle.mat_words.specs.Lines.{text_of}
 use Rattle.mat_sets.specs.declared.weight.Weight.{Weight}
-use Rattle.mat_any.specs.Trees.{Tree, uniform, partition, laminar, graphic, transversal, gammoid, gf2, dual, truncate, restrict, contract, union}
+use Rattle.mat_any.specs.Trees.{Tree, gf2}
 use Rattle.mat_problem.specs.Validity.{IsValid, IsValidTree}
 use Rattle.mat_problem.specs.Instances as instances
 use Rattle.mat_problem.specs.Instances.{Instance, pair}

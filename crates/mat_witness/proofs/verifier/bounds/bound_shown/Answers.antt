@@ -1,7 +1,7 @@
 use Rattle.std.proofs.Common.{◌≡◌, ℕ, ◌≤◌, List, length, ap, subst, arith}
 use Rattle.mat_sets.specs.Limits.{most_elements}
 use Rattle.mat_sets.proofs.Ground.{IsSet-length}
-use Rattle.mat_any.specs.Trees.{Tree, uniform, partition, laminar, graphic, transversal, gammoid, gf2, dual, truncate, restrict, contract, union}
+use Rattle.mat_any.specs.Trees.{Tree, uniform, partition, laminar}
 use Rattle.mat_any.specs.Trees.{element_count}
 use Rattle.mat_any.specs.Views.{tree_of}
 use Rattle.mat_witness.specs.Parts.{BoundPart, IsBoundFor, spent}
