@@ -84,12 +84,6 @@ impl Matroid for AnyMatroid {
         }
     }
 
-    /// The exchanges of x, by what is kept of the set for this one. The only error is want of memory.
-    fn circuit(&self, alloc: Global, base: &ElemSet, x: u32) -> Result<Exchange, AllocError> {
-        let kept = self.keep(alloc, base)?;
-        self.row(alloc, base, &kept, x)
-    }
-
     fn run(&self, alloc: Global, order: &[u32]) -> Result<ElemSet, AllocError> {
         match united(alloc, self)? {
             Some(union) => union.run(alloc, order),

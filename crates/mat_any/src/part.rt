@@ -38,12 +38,6 @@ impl<'a> Matroid for Part<'a> {
         independent(alloc, self.matroid, set)
     }
 
-    /// The exchanges of x, by what is kept of the set for this one. The only error is want of memory.
-    fn circuit(&self, alloc: Global, base: &ElemSet, x: u32) -> Result<Exchange, AllocError> {
-        let kept = keep(alloc, self.matroid, base)?;
-        row(alloc, self.matroid, base, &kept, x)
-    }
-
     fn run(&self, alloc: Global, order: &[u32]) -> Result<ElemSet, AllocError> {
         run(alloc, self.matroid, order)
     }

@@ -58,7 +58,13 @@ impl Matroid for Flags {
         Ok(true)
     }
 
-    fn circuit(&self, alloc: Global, base: &ElemSet, x: u32) -> Result<Exchange, AllocError> {
+    fn row(
+        &self,
+        alloc: Global,
+        base: &ElemSet,
+        _kept: &(),
+        x: u32,
+    ) -> Result<Exchange, AllocError> {
         let met = if x == 0 {
             meets(&self.first, &self.second)
         } else {

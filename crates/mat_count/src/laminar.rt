@@ -280,13 +280,6 @@ impl Matroid for Laminar {
         Ok(are_within(&numbers, &self.caps))
     }
 
-    /// The exchanges of x by what is kept of the set: one row. The time is that of reading the set and each listed one. The only error is
-    /// want of memory.
-    fn circuit(&self, alloc: Global, base: &ElemSet, x: u32) -> Result<Exchange, AllocError> {
-        let kept = self.keep(alloc, base)?;
-        self.row(alloc, base, &kept, x)
-    }
-
     /// The greedy run, by a counter for each listed set. No question of independence is asked: the time is linear in the
     /// number of listed sets and, for each element of the order, in how many sets hold it, but for a shift of the set's later
     /// members where one is put in before them. The only error is want of memory.

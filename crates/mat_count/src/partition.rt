@@ -238,13 +238,6 @@ impl Matroid for Partition {
         Ok(are_within(&numbers, &self.caps))
     }
 
-    /// The exchanges of x by what is kept of the set: one row. The time is that of reading the set and the classes. The only error is want
-    /// of memory.
-    fn circuit(&self, alloc: Global, base: &ElemSet, x: u32) -> Result<Exchange, AllocError> {
-        let kept = self.keep(alloc, base)?;
-        self.row(alloc, base, &kept, x)
-    }
-
     /// The greedy run, by a counter for each class. No question of independence is asked: the time is linear in the order and
     /// the number of classes, but for a shift of the set's later members where one is put in before them. The only error is
     /// want of memory.

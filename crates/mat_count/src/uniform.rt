@@ -60,7 +60,13 @@ impl Matroid for Uniform {
 
     /// An element outside can be added exactly where the set has fewer elements than the cap, and can be exchanged for every
     /// member. No question of independence is asked: the time is that of a copy of the set. The only error is want of memory.
-    fn circuit(&self, alloc: Global, base: &ElemSet, _x: u32) -> Result<Exchange, AllocError> {
+    fn row(
+        &self,
+        alloc: Global,
+        base: &ElemSet,
+        _kept: &(),
+        _x: u32,
+    ) -> Result<Exchange, AllocError> {
         let with = base.copy(alloc)?;
         Ok(Exchange {
             addable: base.len() < self.cap as usize,

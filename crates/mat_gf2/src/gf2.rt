@@ -83,12 +83,6 @@ impl Matroid for Gf2 {
         run_along(alloc, &self.columns, order)
     }
 
-    /// The exchanges of x, by what is kept of the set for this one. The only error is want of memory.
-    fn circuit(&self, alloc: Global, base: &ElemSet, x: u32) -> Result<Exchange, AllocError> {
-        let kept = self.keep(alloc, base)?;
-        self.row(alloc, base, &kept, x)
-    }
-
     /// A basis of the columns of the set, by one elimination: an exclusive-or for each two members; and eight parity checks of
     /// its span, by an inner product for each of them and each member. The only error is want of memory.
     fn keep(&self, alloc: Global, base: &ElemSet) -> Result<KeptBasis, AllocError> {

@@ -188,12 +188,6 @@ impl Matroid for Graphic {
         Ok(are_forest(&mut parent, self.edges.as_slice(), set))
     }
 
-    /// The exchanges of an edge outside a forest: its trees are rooted, and the edge is asked. The only error is want of memory.
-    fn circuit(&self, alloc: Global, base: &ElemSet, x: u32) -> Result<Exchange, AllocError> {
-        let kept = self.keep(alloc, base)?;
-        self.row(alloc, base, &kept, x)
-    }
-
     /// The greedy run along an order, by one union-find: an edge enters where its ends are in two components of those
     /// before it, as in Kruskal's algorithm (Schrijver, chapter 50). The time is nearly linear in the number of vertices and
     /// the length of the order, but for a shift of the set's later members where one is put in before them. The only error is

@@ -2,7 +2,7 @@
 //!
 //! A new kind of matroid needs three calls of `Matroid`: `size`, `independent`, and `keep`, which with `Kept` of `()` keeps nothing. Beside them
 //! stand its ghost members: how many elements there are, when a value is sound, its test of independence, when what is kept is right, and the
-//! proof that each sound value obeys `IsMatroid`. Every other method has a body that asks these; `run`, `circuit`, `row`, `adds`,
+//! proof that each sound value obeys `IsMatroid`. Every other method has a body that asks these; `run`, `row`, `adds`,
 //! `circuit_members`, `columns` and `keep_next` may have faster ones. docs/CALLING.md goes through such a kind.
 #![tactic(auto)]
 

@@ -144,19 +144,6 @@ pub trait Matroid: Sync + Drop {
         Ok(Exchange { addable, with })
     }
 
-    /// The exchanges of an element x outside an independent set: whether it can be added, and for which members it can
-    /// be exchanged (Schrijver, chapter 39). A kind may have a faster body. The only error is want of memory.
-    fn circuit(&self, alloc: Global, base: &ElemSet, x: u32) -> Result<Exchange, AllocError>
-        requires sound { sound self.now }
-        requires base { indep self.now base.now ≡ true }
-        requires below { x < ground_size self.now }
-        requires outside { is_member x base.now ≡ false }
-        ensures row { IfOk result (λ e. e ≡ row_of (indep self.now) base.now x) }
-        ensures rises { IfOk result (λ e. IsRising e.with) }
-    {
-        self.circuit_by_questions(alloc, base, x)
-    }
-
     /// What is kept of an independent set, for `row` and `columns` while the set stays as it is. The only error is want of memory.
     fn keep(&self, alloc: Global, base: &ElemSet) -> Result<Self::Kept, AllocError>
         requires sound { sound self.now }
@@ -181,8 +168,9 @@ pub trait Matroid: Sync + Drop {
         self.keep(alloc, next)
     }
 
-    /// The exchanges of an element x outside an independent set of which something is kept. A kind that keeps something has
-    /// a faster body; this one asks `circuit`. The only error is want of memory.
+    /// The exchanges of an element x outside an independent set of which something is kept: whether it can be added, and for which members
+    /// it can be exchanged (Schrijver, chapter 39). A kind may have a faster body; this one asks questions of independence alone. The only error
+    /// is want of memory.
     fn row(
         &self,
         alloc: Global,
@@ -198,7 +186,20 @@ pub trait Matroid: Sync + Drop {
         ensures row { IfOk result (λ e. e ≡ row_of (indep self.now) base.now x) }
         ensures rises { IfOk result (λ e. IsRising e.with) }
     {
-        self.circuit(alloc, base, x)
+        self.circuit_by_questions(alloc, base, x)
+    }
+
+    /// The exchanges of an element x outside an independent set, by what is kept of the set for this one. The only error is want of memory.
+    fn circuit(&self, alloc: Global, base: &ElemSet, x: u32) -> Result<Exchange, AllocError>
+        requires sound { sound self.now }
+        requires base { indep self.now base.now ≡ true }
+        requires below { x < ground_size self.now }
+        requires outside { is_member x base.now ≡ false }
+        ensures row { IfOk result (λ e. e ≡ row_of (indep self.now) base.now x) }
+        ensures rises { IfOk result (λ e. IsRising e.with) }
+    {
+        let kept = self.keep(alloc, base)?;
+        self.row(alloc, base, &kept, x)
     }
 
     /// Whether an element x outside an independent set of which something is kept can be added to it. A kind may have a body that makes no
@@ -293,10 +294,6 @@ impl<M: Matroid> Matroid for &M {
 
     fn independent(&self, alloc: Global, set: &ElemSet) -> Result<bool, AllocError> {
         (**self).independent(alloc, set)
-    }
-
-    fn circuit(&self, alloc: Global, base: &ElemSet, x: u32) -> Result<Exchange, AllocError> {
-        (**self).circuit(alloc, base, x)
     }
 
     fn run(&self, alloc: Global, order: &[u32]) -> Result<ElemSet, AllocError> {

@@ -334,13 +334,6 @@ impl Matroid for Gammoid {
         Ok(set)
     }
 
-    /// The exchanges of an element by disjoint paths to the vertices of the set, which are sought for this one. The only error is
-    /// want of memory.
-    fn circuit(&self, alloc: Global, base: &ElemSet, x: u32) -> Result<Exchange, AllocError> {
-        let kept = self.keep(alloc, base)?;
-        self.row(alloc, base, &kept, x)
-    }
-
     /// Disjoint paths to the vertices of the set: one search of the bits of the graph for each member. The only error is want of memory.
     fn keep(&self, alloc: Global, base: &ElemSet) -> Result<KeptLinking, AllocError> {
         keep_paths(

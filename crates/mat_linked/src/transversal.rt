@@ -109,12 +109,6 @@ impl Matroid for Transversal {
         matched_along(alloc, &self.rows, self.family.len() as u32, order)
     }
 
-    /// The exchanges of an element by a matching of the set, which is made for this one. The only error is want of memory.
-    fn circuit(&self, alloc: Global, base: &ElemSet, x: u32) -> Result<Exchange, AllocError> {
-        let kept = self.keep(alloc, base)?;
-        self.row(alloc, base, &kept, x)
-    }
-
     /// A matching of the set. The only error is want of memory.
     fn keep(&self, alloc: Global, base: &ElemSet) -> Result<KeptMatching, AllocError> {
         KeptMatching::new(alloc, &self.rows, self.family.len() as u32, base)

@@ -86,24 +86,6 @@ impl<M: Matroid> Matroid for Contraction<M> {
         self.inner.independent(alloc, &joined)
     }
 
-    /// The exchanges of the inner matroid at the set together with what was chosen of the contracted elements, for
-    /// members of the set; none for a contracted element. Asks for the inner ones at most once. The only error is want of
-    /// memory.
-    fn circuit(&self, alloc: Global, base: &ElemSet, x: u32) -> Result<Exchange, AllocError> {
-        if self.away.contains(x) {
-            return Ok(Exchange {
-                addable: false,
-                with: ElemSet::new(alloc),
-            });
-        }
-        let joined = base.union(alloc, &self.chosen)?;
-        let inner = self.inner.circuit(alloc, &joined, x)?;
-        Ok(Exchange {
-            addable: inner.addable,
-            with: inner.with.minus(alloc, &self.chosen)?,
-        })
-    }
-
     /// One run of the inner matroid, first through the contracted elements, and then through the others of the order. The
     /// only error is want of memory.
     fn run(&self, alloc: Global, order: &[u32]) -> Result<ElemSet, AllocError> {

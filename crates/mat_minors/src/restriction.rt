@@ -67,18 +67,6 @@ impl<M: Matroid> Matroid for Restriction<M> {
         self.inner.independent(alloc, set)
     }
 
-    /// The exchanges of the inner matroid for an element that is kept, and none for another. Asks for the inner ones
-    /// at most once. The only error is want of memory.
-    fn circuit(&self, alloc: Global, base: &ElemSet, x: u32) -> Result<Exchange, AllocError> {
-        if !self.kept.contains(x) {
-            return Ok(Exchange {
-                addable: false,
-                with: ElemSet::new(alloc),
-            });
-        }
-        self.inner.circuit(alloc, base, x)
-    }
-
     /// One run of the inner matroid along the elements of the order that are kept. The only error is want of memory.
     fn run(&self, alloc: Global, order: &[u32]) -> Result<ElemSet, AllocError> {
         self.inner.lawful();

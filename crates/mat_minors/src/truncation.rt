@@ -75,13 +75,6 @@ impl<M: Matroid> Matroid for Truncation<M> {
         self.inner.independent(alloc, set)
     }
 
-    /// The exchanges of the inner matroid; an element can be added only below the cap. Asks for the inner ones once. The
-    /// only error is want of memory.
-    fn circuit(&self, alloc: Global, base: &ElemSet, x: u32) -> Result<Exchange, AllocError> {
-        let inner = self.inner.circuit(alloc, base, x)?;
-        Ok(addable_where(inner, base.len() < self.cap as usize))
-    }
-
     /// One run of the inner matroid, of which the first that the order has are taken, up to the cap. The only error is want of
     /// memory.
     fn run(&self, alloc: Global, order: &[u32]) -> Result<ElemSet, AllocError> {

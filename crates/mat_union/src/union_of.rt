@@ -72,12 +72,6 @@ impl<M: Matroid> Matroid for UnionOf<M> {
         run_along(alloc, self.parts.as_slice(), n, order)
     }
 
-    /// The exchanges of x, by what is kept of the set for this one. The only error is want of memory.
-    fn circuit(&self, alloc: Global, base: &ElemSet, x: u32) -> Result<Exchange, AllocError> {
-        let kept = self.keep(alloc, base)?;
-        self.row(alloc, base, &kept, x)
-    }
-
     /// Parts of the set, found as `independent` does, and what each matroid keeps of its part. The only error is want of memory.
     fn keep(&self, alloc: Global, base: &ElemSet) -> Result<KeptParts<M::Kept>, AllocError> {
         let n = self.size();

@@ -1,6 +1,6 @@
 use Rattle.std.proofs.Common.{ltb, ap}
 use Rattle.mat_count.proofs.UniformRows.{row_of_uniform}
-use Rattle.mat_count.proofs.uniform.UniformMatroid.circuit.Goals as goal
+use Rattle.mat_count.proofs.uniform.UniformMatroid.row.Goals as goal
 
 pub returns-clause-row : goal.returns-clause-row
 returns-clause-row c =
