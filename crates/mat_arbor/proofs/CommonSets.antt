@@ -29,10 +29,10 @@ use Rattle.mat_arbor.specs.Heads.{EntersOnce, cap_at, head_of, is_entering_once}
 
 -- ---- at most one arc into each vertex, as a matroid and in words
 
-cap_root : (root v : ℕ) → v ≡ root → cap_at root v ≡ 0
+pub cap_root : (root v : ℕ) → v ≡ root → cap_at root v ≡ 0
 cap_root root v e = rw (eq-eqb v root e) refl
 
-cap_other : (root v : ℕ) → v ≢ root → cap_at root v ≡ 1
+pub cap_other : (root v : ℕ) → v ≢ root → cap_at root v ≡ 1
 cap_other root v d = rw (ne_eqb v root d) refl
 
 cap_most : (root v : ℕ) → cap_at root v ≤ 1

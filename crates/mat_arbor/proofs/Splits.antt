@@ -43,7 +43,7 @@ use Rattle.mat_arbor.proofs.Slackness.{entered_once}
 use Rattle.mat_arbor.proofs.Values.{times_negated, times_plus, value_order, weight_of-tie, weight_of-value}
 
 -- at most one arc into each vertex and none into the root: the laws of independence hold of it
-entering_once_laws : (n vertices : ℕ) (ends : ℕ → ℕ × ℕ) (root : ℕ) → IsMatroid n (is_entering_once n vertices ends root)
+pub entering_once_laws : (n vertices : ℕ) (ends : ℕ → ℕ × ℕ) (root : ℕ) → IsMatroid n (is_entering_once n vertices ends root)
 entering_once_laws n vertices ends root =
     partition_laws n (classes_by n vertices (head_of ends)) (caps_by vertices (cap_at root))
     (IsPartition-classes_by n vertices (head_of ends) (caps_by vertices (cap_at root)) (length-caps_by vertices (cap_at root)))

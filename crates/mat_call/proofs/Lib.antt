@@ -1,3 +1,2 @@
-mod LineWords
 mod RoomsTold
 mod ToldFiles

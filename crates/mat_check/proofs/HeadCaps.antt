@@ -1,26 +1,12 @@
--- At most one arc into each vertex and none into the root: the laws of independence hold of it, and its caps are the list that is made.
-use Rattle.std.proofs.Common.{◌≡◌, ◌≢◌, ℕ, ◌<◌, List, length, get_or, replicate, set, refl, inl, inr, sym, ap, ◌∙◌, subst, arith}
-use Rattle.std.proofs.lemmas.Bool.{cases_eq, eq-eqb, ne_eqb}
+-- At most one arc into each vertex and none into the root: the caps are the list that is made.
+use Rattle.std.proofs.Common.{◌≡◌, ◌≢◌, ℕ, ◌<◌, List, length, get_or, replicate, set, inl, inr, sym, ap, ◌∙◌, subst, arith}
+use Rattle.std.proofs.lemmas.Bool.{cases_eq}
 use Rattle.std.proofs.lemmas.Grind.{same_number_lists}
 use Rattle.std.proofs.lemmas.List.{get_or-replicate, get_or-set_other, get_or-set_same, length-replicate, length-set}
-use Rattle.mat_laws.specs.Matroids.{IsMatroid}
-use Rattle.mat_count.specs.Labels.{caps_by, classes_by}
-use Rattle.mat_count.specs.PartitionLaws.{partition_laws}
-use Rattle.mat_count.proofs.LabelClasses.{IsPartition-classes_by, caps_by-at, length-caps_by}
-use Rattle.mat_arbor.specs.Heads.{cap_at, head_of, is_entering_once}
-
-pub entering_once_laws : (n vertices : ℕ) (ends : ℕ → ℕ × ℕ) (root : ℕ) → IsMatroid n (is_entering_once n vertices ends root)
-entering_once_laws n vertices ends root =
-    partition_laws n (classes_by n vertices (head_of ends)) (caps_by vertices (cap_at root))
-    (IsPartition-classes_by n vertices (head_of ends) (caps_by vertices (cap_at root)) (length-caps_by vertices (cap_at root)))
-
--- ---- the list of the caps
-
-cap_root : (root v : ℕ) → v ≡ root → cap_at root v ≡ 0
-cap_root root v e = rw (eq-eqb v root e) refl
-
-cap_other : (root v : ℕ) → v ≢ root → cap_at root v ≡ 1
-cap_other root v d = rw (ne_eqb v root d) refl
+use Rattle.mat_count.specs.Labels.{caps_by}
+use Rattle.mat_count.proofs.LabelClasses.{caps_by-at, length-caps_by}
+use Rattle.mat_arbor.specs.Heads.{cap_at}
+use Rattle.mat_arbor.proofs.CommonSets.{cap_other, cap_root}
 
 pub caps_by-root : (vertices root : ℕ) (ones : List ℕ) → root < vertices → ones ≡ replicate vertices 1
     → set ones root 0 ≡ caps_by vertices (cap_at root)

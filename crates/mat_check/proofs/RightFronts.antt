@@ -28,7 +28,7 @@ use Rattle.mat_cert.specs.declared.answer.PricedRung.{PricedRung}
 use Rattle.mat_check.specs.AnswerClauses.{clauses_of}
 use Rattle.mat_check.specs.Clauses.{Clause, heaviest_clause, ladder_clauses}
 use Rattle.mat_check.specs.TreeClauses.{arborescence_clauses, colours_clauses, cost_clause}
-use Rattle.mat_check.proofs.HeadCaps.{entering_once_laws}
+use Rattle.mat_arbor.proofs.Splits.{entering_once_laws}
 use Rattle.mat_check.proofs.AnswerForms.{RightHasNoFailure}
 use Rattle.mat_check.proofs.FirstFailures.{AllHold, all_hold, none_fails, AllHold-append, AllHold-at, AllHold-back, AllHold-front, AllHold-map}
 use Rattle.mat_check.proofs.RightLadders.{ladder_is_right, ladder_holds}

@@ -1,16 +1,14 @@
 -- Reading a list of jobs: the words of a line are text, no more than the first seven of them matter, and the lines are read one job after the
 -- other, as a loop reads them: the jobs so far, in front of those that are still read, are the jobs that are read in all.
-use Rattle.std.proofs.Common.{◌≡◌, ℕ, zero, suc, ◌-◌, ◌+◌, ◌≤◌, ◌<◌, Bool, true, false, not, cond, eqb, leb, List, [], ◌∷◌, ◌++◌, length}
+use Rattle.std.proofs.Common.{◌≡◌, ℕ, zero, suc, ◌-◌, ◌+◌, ◌≤◌, ◌<◌, Bool, true, false, not, cond, eqb, List, [], ◌∷◌, ◌++◌, length}
 use Rattle.std.proofs.Common.{take, Option, Some, None, Result, Ok, Err, refl, sym, ap, subst, ◌∙◌, arith, append_assoc}
-use Rattle.std.specs.Prelude.{IsUtf8, IsAscii, IfOk, IfErr}
+use Rattle.std.specs.Prelude.{IfOk, IfErr}
 use Rattle.std.specs.List.{list_all}
-use Rattle.std.proofs.lemmas.Bool.{and_parts, not-false, leb-true}
-use Rattle.std.proofs.lemmas.Str.{IsUtf8-from_ascii}
-use Rattle.std.proofs.lemmas.Str.Ascii.{IsAscii-nil, IsAscii-cons}
+use Rattle.std.proofs.lemmas.Bool.{not-false}
 use Rattle.std.proofs.lemmas.List.{append-nil, take_all, take-append-le}
 use Rattle.mat_words.specs.Cursors.{WordsLeft, LinesLeft}
 use Rattle.mat_words.specs.Lines.{lines_of}
-use Rattle.mat_words.specs.Words.{is_letter, is_word, words_of, is_well_spaced}
+use Rattle.mat_words.specs.Words.{is_word, words_of, is_well_spaced}
 use Rattle.mat_words.specs.Reading.{Fault, line_from, line_at, is_closed}
 use Rattle.mat_words.specs.Steps.{◌>>=◌}
 use Rattle.mat_words.specs.declared.refusal.ReadingFault.TheVariants.{EndsEarly, BadByte, NoWord}
@@ -22,19 +20,6 @@ use Rattle.mat_command.specs.declared.refusal.ListRefusal.TheVariants.{Line, Mem
 use Rattle.mat_desc.specs.Limits.{description_limit}
 
 -- ---- the words of a line
-
-letters_ascii : (bs : List ℕ) → list_all is_letter bs ≡ true → IsAscii bs
-letters_ascii [] h = IsAscii-nil
-letters_ascii (b ∷ bs) h =
-    let here = and_parts (is_letter b) (list_all is_letter bs) h in
-    let most = and_parts (leb 33 b) (leb b 126) here.0 in
-    let below : b ≤ 126 = leb-true b 126 most.1 in
-    IsAscii-cons b bs (omega arith) (letters_ascii bs here.1)
-
--- a word is text
-pub word_utf8 : (word : List ℕ) → is_word word ≡ true → IsUtf8 word
-word_utf8 [] h = absurd cc
-word_utf8 (b ∷ bs) h = IsUtf8-from_ascii (b ∷ bs) (letters_ascii (b ∷ bs) h)
 
 -- the words of a line that is read are words
 pub line_words : (p : LinesLeft) (w : WordsLeft) (q : LinesLeft) → line_at p ≡ Ok (w, q) → list_all is_word w.words ≡ true

@@ -19,6 +19,7 @@ use Rattle.mat_flow.proofs.LineGraphs.{has_arc-line, is_member-arcs_from, is_mem
 use Rattle.mat_flow.proofs.PathsOfTables.{starts_of_all}
 use Rattle.mat_flow.proofs.LinkTables.{none_is_not_some, AreOwn, IsLinkTable-own}
 use Rattle.mat_sets.proofs.Rows.{is_member-inserted}
+use Rattle.mat_sets.proofs.Truths.{or_none, or_assoc}
 
 -- ---- the rows of live arcs
 
@@ -54,17 +55,9 @@ is_passed-more : (ends : ℕ → ℕ × ℕ) (before : List (Option ℕ)) (vs : 
     → is_passed ends before (take (i + 1) vs) x ≡ (is_passed ends before (take i vs) x || is_head_there ends x (entry_at before (get_or vs i 0)))
 is_passed-more ends before [] i x l = absurd (omega arith)
 is_passed-more ends before (v ∷ vs) zero x l = or_none (is_head_there ends x (entry_at before v))
-  where
-    or_none : (a : Bool) → (a || false) ≡ a
-    or_none true = refl
-    or_none false = refl
 is_passed-more ends before (v ∷ vs) (suc i) x l =
     rw (add-one (suc i)) (rest (rw (add-one i) at (is_passed-more ends before vs i x (omega arith))))
   where
-    or_assoc : (a b c : Bool) → (a || (b || c)) ≡ ((a || b) || c)
-    or_assoc true b c = refl
-    or_assoc false b c = refl
-
     rest : is_passed ends before (take (suc i) vs) x ≡ (is_passed ends before (take i vs) x || is_head_there ends x (entry_at before (get_or vs i 0)))
         → (is_head_there ends x (entry_at before v) || is_passed ends before (take (suc i) vs) x)
         ≡ ((is_head_there ends x (entry_at before v) || is_passed ends before (take i vs) x) || is_head_there ends x (entry_at before (get_or vs i 0)))

@@ -116,7 +116,7 @@ path_by_index arcs (v ∷ []) some steps = tt
 path_by_index arcs (v ∷ w ∷ rest) some steps =
     (steps 0 (omega arith), path_by_index arcs (w ∷ rest) (omega arith) (λ i l. steps (suc i) (omega arith)))
 
-first_of_is : (path : List ℕ) → first_of path ≡ get_or path 0 0
+pub first_of_is : (path : List ℕ) → first_of path ≡ get_or path 0 0
 first_of_is [] = refl
 first_of_is (v ∷ rest) = refl
 

@@ -1,8 +1,9 @@
 -- The search that ends at the first goal that it meets. What was found is told by the number of steps to it, which falls along the trace back;
 -- where no goal is met, what was found is closed among the live vertices.
 use Rattle.std.proofs.Common.{◌≡◌, ℕ, zero, suc, ◌+◌, ◌-◌, ◌<◌, ◌≤◌, Bool, true, false, not, ◌&&◌, ◌||◌, eqb, ltb, cond, List, [], ◌∷◌, ◌++◌, length, get_or, set, take, is_some, Option, Some, None, ◌⊎◌, inl, inr, refl, sym, ap, ◌∙◌, subst, arith}
-use Rattle.std.proofs.lemmas.Bool.{and_from, and_parts, both_ways, cases_Bool, cases_lt, eq-eqb, eqb-true, false_from_ne_true, false≢true, lt-ltb, or_cases, or_left, or_right}
+use Rattle.std.proofs.lemmas.Bool.{and_from, and_parts, both_ways, cases_Bool, cases_lt, eq-eqb, eqb-true, false_from_ne_true, false≢true, lt-ltb, or_cases, or_left, or_right, not-true}
 use Rattle.std.proofs.lemmas.List.{get_or_default, length_push}
+use Rattle.std.proofs.lemmas.Option.{none-some, same_Some}
 use Rattle.mat_sets.specs.Rounds.{AreTaken}
 use Rattle.mat_sets.specs.Search.{IsFirstFrom}
 use Rattle.mat_sets.specs.Sets.{all_below, is_member, with_one, without_one, AreDistinct, IsRising}
@@ -185,15 +186,6 @@ pub record IsLooking (n : ℕ) (arc : ℕ → ℕ → Bool) (start goal : ℕ �
   pub still : end ≡ None → IsOpen arc start goal at rest found
   pub hit : (g : ℕ) → end ≡ Some g → (is_member g found ≡ true) × (goal g ≡ true)
 
-none_or_some : (g : ℕ) → None ≡ Some g → ⊥
-none_or_some g e = cc
-
-some_or_none : (g : ℕ) → Some g ≡ None → ⊥
-some_or_none g e = cc
-
-same_some : (g h : ℕ) → Some g ≡ Some h → g ≡ h
-same_some g h e = cc
-
 module _ (n : ℕ) (arc : ℕ → ℕ → Bool) (start goal : ℕ → Bool) (live : List ℕ) where
   pub found_few : (at : ℕ) (rest found before : List ℕ) (end : Option ℕ) → IsLooking n arc start goal live at rest found before end → length found ≤ n
   found_few at rest found before end k =
@@ -229,15 +221,15 @@ module _ (n : ℕ) (arc : ℕ → ℕ → Bool) (start goal : ℕ → Bool) (liv
     distinct = f.distinct tt (λ v m. refl);
     past = omega arith;
     still = λ e. IsOpen-start below before rest more after t.0 t.1;
-    hit = λ g e. absurd (none_or_some g e);
+    hit = λ g e. absurd (none-some g e);
   }
   look_start before rest more after (Some g) below long t f = record {
     chain = IsChain-taken n arc start live live [] before (IsChain-none n arc start live before below long) (λ x. ltb x (g + 1) && start x) n 0 rest more after t.0
         (λ v s. inl (refl, (and_parts (ltb v (g + 1)) (start v) s).1, refl));
     distinct = f.distinct tt (λ v m. refl);
     past = omega arith;
-    still = λ e. absurd (some_or_none g e);
-    hit = λ h e. subst (λ x. (is_member x more ≡ true) × (goal x ≡ true)) (same_some g h e) (t.1, t.2);
+    still = λ e. absurd (none-some g (sym e));
+    hit = λ h e. subst (λ x. (is_member x more ≡ true) × (goal x ≡ true)) (same_Some g h e) (t.1, t.2);
   }
 
   module _ (at : ℕ) (rest found before : List ℕ) (k : IsLooking n arc start goal live at rest found before None) (l : at < length found)
@@ -249,10 +241,7 @@ module _ (n : ℕ) (arc : ℕ → ℕ → Bool) (start goal : ℕ → Bool) (liv
     u_found = is_member-get_or found at u l refl
 
     apart : (v : ℕ) → is_member v rest ≡ true → is_member v found ≡ false
-    apart v m = other (is_member v found) (and_parts (is_member v live) (not (is_member v found)) (sym (k.chain.rest_is v) ∙ m)).1
-      where
-        other : (b : Bool) → not b ≡ true → b ≡ false
-        other b e = grind arith
+    apart v m = not-true (is_member v found) (and_parts (is_member v live) (not (is_member v found)) (sym (k.chain.rest_is v) ∙ m)).1
 
     IsOpen-next : AreTaken (arc u) u rest found before less more after
         → ((v : ℕ) → is_member v more ≡ true → is_member v found ≡ false → goal v ≡ false) → IsOpen arc start goal (at + 1) less more
@@ -286,15 +275,15 @@ module _ (n : ℕ) (arc : ℕ → ℕ → Bool) (start goal : ℕ → Bool) (liv
       distinct = f.distinct k.distinct apart;
       past = (let b = f.long in omega arith);
       still = λ e. IsOpen-next t.0 t.1;
-      hit = λ g e. absurd (none_or_some g e);
+      hit = λ g e. absurd (none-some g e);
     }
     look_next (Some g) t = record {
       chain = IsChain-taken n arc start live rest found before k.chain (λ x. ltb x (g + 1) && arc u x) u (suc (k.chain.depth u)) less more after t.0
           (λ v a. inr (u_found, (and_parts (ltb v (g + 1)) (arc u v) a).1, refl));
       distinct = f.distinct k.distinct apart;
       past = (let b = f.long in omega arith);
-      still = λ e. absurd (some_or_none g e);
-      hit = λ h e. subst (λ x. (is_member x more ≡ true) × (goal x ≡ true)) (same_some g h e) (t.1, t.2);
+      still = λ e. absurd (none-some g (sym e));
+      hit = λ h e. subst (λ x. (is_member x more ≡ true) × (goal x ≡ true)) (same_Some g h e) (t.1, t.2);
     }
 
   -- ---- nothing is met
@@ -496,12 +485,9 @@ module _ (n : ℕ) (arc : ℕ → ℕ → Bool) (goal : ℕ → Bool) (live : Li
       → ((v : ℕ) → v < n → start v ≡ true → is_member v live ≡ false) → IsReachedSet n arc start reached
       → (v : ℕ) → is_member v reached ≡ true → goal v ≡ false
   shut_misses start reached s outside r v m =
-      s.missed v (below_member r.set m) (out (is_member v live) (reached_by_induction reached (λ u. not (is_member u live)) r
+      s.missed v (below_member r.set m) (not-true (is_member v live) (reached_by_induction reached (λ u. not (is_member u live)) r
       (λ u l t. ap not (outside u l t))
-      (λ u w on l o a. ap not (s.closed u w (below_member r.set on) (out (is_member u live) o) l a)) v m))
-    where
-      out : (b : Bool) → not b ≡ true → b ≡ false
-      out b e = grind arith
+      (λ u w on l o a. ap not (s.closed u w (below_member r.set on) (not-true (is_member u live) o) l a)) v m))
 
 -- after a search in vain among all vertices, those that are found are the reached ones
 pub spent_reaches : (n : ℕ) (arc : ℕ → ℕ → Bool) (start goal : ℕ → Bool) (live rest reached : List ℕ) → live ≡ all_below n
@@ -511,15 +497,12 @@ spent_reaches n arc start goal live rest reached all e r v =
     same_truth (is_member v reached) (is_member v live && not (is_member v rest))
     (λ m. and_from (is_member v live) (not (is_member v rest)) (inside v (below_member r.set m))
     (reached_by_induction reached (λ u. not (is_member u rest)) r (λ u l s. ap not (e.starts u s))
-    (λ u w on l o a. ap not (e.closed u w (inside u (below_member r.set on)) (out (is_member u rest) o) a)) v m))
+    (λ u w on l o a. ap not (e.closed u w (inside u (below_member r.set on)) (not-true (is_member u rest) o) a)) v m))
     (λ m. let p = and_parts (is_member v live) (not (is_member v rest)) m in
-    e.reached (λ u. is_member u reached) (λ u l s. r.starts u l s) (λ u w l on a. r.closed u w on l a) v p.0 (out (is_member v rest) p.1))
+    e.reached (λ u. is_member u reached) (λ u l s. r.starts u l s) (λ u w l on a. r.closed u w on l a) v p.0 (not-true (is_member v rest) p.1))
   where
     inside : (v : ℕ) → v < n → is_member v live ≡ true
     inside v l = ap (is_member v) all ∙ is_member-all_below v n ∙ lt-ltb v n l
-
-    out : (b : Bool) → not b ≡ true → b ≡ false
-    out b e = grind arith
 
 pub bits_reach : (n : ℕ) (arc : ℕ → ℕ → Bool) (start goal : ℕ → Bool) (live rest found bits : List ℕ) → live ≡ all_below n
     → IsSpent n arc start goal live rest → ((v : ℕ) → is_member v found ≡ (is_member v live && not (is_member v rest)))
@@ -530,11 +513,8 @@ bits_reach n arc start goal live rest found bits all e f b rises =
     let same : bits ≡ r.0 = same_members bits r.0 rises r.1.set.rising
     (λ v. b v ∙ f v ∙ sym (spent_reaches n arc start goal live rest r.0 all e r.1 v)) in (
       subst (IsReachedSet n arc start) (sym same) r.1,
-      λ v m. (let p = and_parts (is_member v live) (not (is_member v rest)) (sym (b v ∙ f v) ∙ m) in e.missed v p.0 (out (is_member v rest) p.1)),
+      λ v m. (let p = and_parts (is_member v live) (not (is_member v rest)) (sym (b v ∙ f v) ∙ m) in e.missed v p.0 (not-true (is_member v rest) p.1)),
     )
-  where
-    out : (b : Bool) → not b ≡ true → b ≡ false
-    out b e = grind arith
 
 -- ---- the vertices that come back
 
@@ -561,7 +541,7 @@ none_is (Some g) b e t = absurd (both_ways b (turned b e) t)
 
 pub not_none : (end : Option ℕ) (b : Bool) → is_some end ≡ not b → b ≡ false → end ≡ None → ⊥
 not_none None b e f n = false≢true (e ∙ ap not f)
-not_none (Some g) b e f n = some_or_none g n
+not_none (Some g) b e f n = none-some g (sym n)
 
 pub index_is : (xs : List ℕ) (i x : ℕ) → i < length xs → x ≡ get_or xs i x → x ≡ get_or xs i 0
 index_is xs i x l e = e ∙ get_or_default xs i x 0 l

@@ -23,18 +23,15 @@ entry_set table i entry k l = elim (cases_eq k i) [
   | inr other ↦ inr (other, get_or-set_other table i k entry None other)
 ]
 
+pub none_is_not_some : (u : ℕ) → None ≡ Some u → ⊥
+none_is_not_some u h = cc
+
 -- a vertex with an entry is in the table
 pub entry_inside : (table : List (Option ℕ)) (v u : ℕ) → entry_at table v ≡ Some u → v < length table
 entry_inside table v u e = elim (cases_lt v (length table)) [
   | inl l ↦ l
-  | inr past ↦ absurd (none u (sym (get_or_past table v None past) ∙ e))
+  | inr past ↦ absurd (none_is_not_some u (sym (get_or_past table v None past) ∙ e))
 ]
-  where
-    none : (u : ℕ) → None ≡ Some u → ⊥
-    none u h = cc
-
-pub none_is_not_some : (u : ℕ) → None ≡ Some u → ⊥
-none_is_not_some u h = cc
 
 pub some_is_one : (u w : ℕ) → Some u ≡ Some w → u ≡ w
 some_is_one u w h = cc

@@ -19,7 +19,7 @@ IsPath-index arcs (v ∷ []) k long steps = tt
 IsPath-index arcs (v ∷ w ∷ rest) k long steps =
     (steps 0 (omega arith), IsPath-index arcs (w ∷ rest) (length rest) refl (λ i l. steps (suc i) (omega arith)))
 
-last_of-index : (path : List ℕ) (k : ℕ) → length path ≡ suc k → last_of path ≡ get_or path k 0
+pub last_of-index : (path : List ℕ) (k : ℕ) → length path ≡ suc k → last_of path ≡ get_or path k 0
 last_of-index (v ∷ []) zero long = refl
 last_of-index (v ∷ w ∷ rest) (suc k) long = last_of-index (w ∷ rest) k (omega arith)
 last_of-index _ k long = absurd (omega arith)

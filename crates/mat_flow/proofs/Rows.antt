@@ -9,6 +9,7 @@ use Rattle.mat_sets.specs.Sets.{is_member, with_one}
 use Rattle.mat_flow.specs.Digraphs.{AreRows}
 use Rattle.mat_sets.proofs.Rows.{is_member-inserted}
 use Rattle.mat_sets.specs.Rows.{row_at}
+use Rattle.mat_sets.proofs.Truths.{or_none, or_assoc}
 use Rattle.mat_flow.specs.Paths.{has_arc}
 
 -- ---- rows without arcs
@@ -53,17 +54,9 @@ pub has_arc-more : (arcs : List (ℕ × ℕ)) (i u v : ℕ) → i < length arcs
     → has_arc (take (i + 1) arcs) u v ≡ (has_arc (take i arcs) u v || (eqb (ends_of arcs i).0 u && eqb (ends_of arcs i).1 v))
 has_arc-more [] i u v l = absurd (omega arith)
 has_arc-more (arc ∷ arcs) zero u v l = or_none (eqb arc.0 u && eqb arc.1 v)
-  where
-    or_none : (a : Bool) → (a || false) ≡ a
-    or_none true = refl
-    or_none false = refl
 has_arc-more (arc ∷ arcs) (suc i) u v l =
     rw (add-one (suc i)) (rest (rw (add-one i) at (has_arc-more arcs i u v (omega arith))))
   where
-    or_assoc : (a b c : Bool) → (a || (b || c)) ≡ ((a || b) || c)
-    or_assoc true b c = refl
-    or_assoc false b c = refl
-
     rest : has_arc (take (suc i) arcs) u v ≡ (has_arc (take i arcs) u v || (eqb (ends_of arcs i).0 u && eqb (ends_of arcs i).1 v))
         → ((eqb arc.0 u && eqb arc.1 v) || has_arc (take (suc i) arcs) u v)
         ≡ (((eqb arc.0 u && eqb arc.1 v) || has_arc (take i arcs) u v) || (eqb (ends_of arcs i).0 u && eqb (ends_of arcs i).1 v))

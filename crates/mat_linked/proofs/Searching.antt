@@ -1,7 +1,7 @@
 -- Searches for augmenting walks of a matching, one after the other: where the arcs from an index lead depends on its entry alone, so what was
 -- reached in vain is left alone by later walks, and is never reached again.
 use Rattle.std.proofs.Common.{arith, ◌≡◌, ℕ, ◌<◌, ◌^◌, Bool, true, false, not, ◌&&◌, List, length, is_none, is_some, Option, Some, None, refl, sym, ap, ◌∙◌, subst}
-use Rattle.std.proofs.lemmas.Bool.{and_from, and_parts, both_ways, false_from_ne_true}
+use Rattle.std.proofs.lemmas.Bool.{and_from, and_parts, both_ways, false_from_ne_true, not-true}
 use Rattle.std.specs.List.{All}
 use Rattle.mat_sets.specs.Sets.{all_below, intersection, is_member, with_one, AllBelow}
 use Rattle.mat_sets.specs.Rows.{row_at}
@@ -146,8 +146,5 @@ module _ (rows : List (List ℕ)) (X : List ℕ) (matched : List (Option ℕ)) (
       let members = spent_reaches (length read) _ _ (λ j. is_none (entry_at read j)) live rest reached.0 whole e reached.1 in
       row_reached rows X matched element t fresh below family size inside r passes read same reached.0 bits others reached.1
       (λ j on. let p = and_parts (is_member j live) (not (is_member j rest)) (sym (members j) ∙ on) in
-      e.missed j p.0 (out (is_member j rest) p.1))
+      e.missed j p.0 (not-true (is_member j rest) p.1))
       (λ y. is y ∙ same_matched matched found reached.0 (λ v. f v ∙ sym (members v)) y) are
-    where
-      out : (b : Bool) → not b ≡ true → b ≡ false
-      out b e = grind arith

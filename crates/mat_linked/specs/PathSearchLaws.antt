@@ -34,7 +34,7 @@ is_path-from arcs (v ∷ w ∷ rest) joined =
 
 -- ---- the vertices of a path
 
-path_below : (vertices : ℕ) (arcs : List (ℕ × ℕ)) → IsGraph vertices arcs → (path : List ℕ) → IsPath arcs path
+pub path_below : (vertices : ℕ) (arcs : List (ℕ × ℕ)) → IsGraph vertices arcs → (path : List ℕ) → IsPath arcs path
     → first_of path < vertices
     → AllBelow vertices path
 path_below vertices arcs g [] joined first = absurd joined

@@ -11,7 +11,7 @@ use Rattle.mat_sets.proofs.Subsets.{length-subset, union-left}
 use Rattle.mat_sets.proofs.Ground.{is_member-all_below, length-all_below, IsRising-all_below}
 use Rattle.mat_sets.proofs.Truths.{or_none}
 
-is_member-items : (x : ℕ) (xs : List ℕ) → is_member x (union xs []) ≡ is_member x xs
+pub is_member-items : (x : ℕ) (xs : List ℕ) → is_member x (union xs []) ≡ is_member x xs
 is_member-items x xs = is_member-union x xs [] ∙ or_none (is_member x xs)
 
 -- the set of the items, with one item more
@@ -19,7 +19,7 @@ union-cons : (x : ℕ) (xs : List ℕ) → union (x ∷ xs) [] ≡ with_one (uni
 unfolding union with_one
 union-cons x xs = refl
 
-items-rise : (xs : List ℕ) → IsRising (union xs [])
+pub items-rise : (xs : List ℕ) → IsRising (union xs [])
 items-rise xs = IsRising-union xs [] IsRising-nil
 
 -- an item that stands later again adds no member, and another adds one
@@ -39,7 +39,7 @@ length-items (x ∷ xs) = elim (cases_Bool (is_member x xs)) [
 ]
 
 -- and as many only where none stands twice
-AreDistinct-length : (xs : List ℕ) → length xs ≤ length (union xs []) → AreDistinct xs
+pub AreDistinct-length : (xs : List ℕ) → length xs ≤ length (union xs []) → AreDistinct xs
 AreDistinct-length [] l = tt
 AreDistinct-length (x ∷ xs) l = elim (cases_Bool (is_member x xs)) [
   | inl m ↦ absurd (omega (arith, again x xs m, length-items xs))

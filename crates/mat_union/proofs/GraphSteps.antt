@@ -9,6 +9,7 @@ use Rattle.mat_sets.proofs.Families.{family_union-gives, family_union-from}
 use Rattle.mat_sets.proofs.Members.{is_member-with_one}
 use Rattle.mat_sets.proofs.Search.{some_below-more}
 use Rattle.mat_sets.proofs.Steps.{is_member-take_more}
+use Rattle.mat_sets.proofs.Truths.{or_commute}
 use Rattle.mat_laws.specs.declared.exchange.Exchange.{Exchange}
 use Rattle.mat_laws.specs.TightPaths.{row_in}
 use Rattle.mat_union.specs.Unions.{part_at}
@@ -58,15 +59,9 @@ pub pushed_more : (rows : List (List Exchange)) (row : List Exchange) (x : Excha
     → ((v : ℕ) → is_member v set ≡ can_push i (exchanges_of rows) u v) → items ≡ x.with → ((v : ℕ) → is_member v set' ≡ (is_member v set || is_member v items))
     → (v : ℕ) → is_member v set' ≡ can_push (i + 1) (exchanges_of rows) u v
 pushed_more rows row x i u set set' items at l is before items_is more v =
-    more v ∙ swap (is_member v set) (is_member v items) ∙ both (is_member v items) ((exchanges_of rows i).trades v u) (is_member v set) (can_push i (exchanges_of rows) u v)
+    more v ∙ or_commute (is_member v set) (is_member v items) ∙ both (is_member v items) ((exchanges_of rows i).trades v u) (is_member v set) (can_push i (exchanges_of rows) u v)
     (ap (is_member v) items_is ∙ sym (trades_at rows row x i u v at l is)) (before v) ∙ sym (some_below-more i (λ q. (exchanges_of rows q).trades v u))
   where
-    swap : (a b : Bool) → (a || b) ≡ (b || a)
-    swap true true = refl
-    swap true false = refl
-    swap false true = refl
-    swap false false = refl
-
     both : (a b c d : Bool) → a ≡ b → c ≡ d → (a || c) ≡ (b || d)
     both a b c d f g = cc
 

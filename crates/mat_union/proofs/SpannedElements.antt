@@ -4,7 +4,7 @@ use Rattle.std.proofs.lemmas.Bool.{false≢true}
 use Rattle.mat_sets.specs.Sets.{is_member, minus, union, with_one, without_one, IsRising, IsSubset}
 use Rattle.mat_sets.proofs.Members.{is_member-minus, is_member-union, is_member-with_one, is_member-without_one, same_members, IsRising-minus}
 use Rattle.mat_sets.proofs.Steps.{is_member-take_more}
-use Rattle.mat_sets.proofs.Truths.{and_neither}
+use Rattle.mat_sets.proofs.Truths.{and_neither, or_none}
 
 pub unspanned_none : (b : Bool) (v : ℕ) (xs : List ℕ) → b ≡ (b && not (is_member v (take 0 xs)))
 unspanned_none true v xs = refl
@@ -14,11 +14,7 @@ pub spanned_with : (spanned elements more all : List ℕ) → more ≡ union ele
     → (v : ℕ) → is_member v all ≡ (is_member v spanned || is_member v elements)
 spanned_with spanned elements more all m a v =
     ap (is_member v) a ∙ is_member-union v spanned more
-    ∙ ap (λ b. is_member v spanned || b) (ap (is_member v) m ∙ is_member-union v elements [] ∙ no_more (is_member v elements))
-  where
-    no_more : (b : Bool) → (b || false) ≡ b
-    no_more true = refl
-    no_more false = refl
+    ∙ ap (λ b. is_member v spanned || b) (ap (is_member v) m ∙ is_member-union v elements [] ∙ or_none (is_member v elements))
 
 only_item : (xs : List ℕ) → 1 ≤ length xs → length xs < 2 → xs ≡ get_or xs 0 0 ∷ []
 only_item [] some few = absurd (omega arith)

@@ -4,6 +4,7 @@ use Rattle.std.proofs.Common.{◌≡◌, ℕ, ◌+◌, ◌<◌, ◌≤◌, Bool,
 use Rattle.std.proofs.lemmas.Bool.{and_from, and_parts, both_ways, cases_Bool, false_from_ne_true, leb-true, leb-false, or_left, or_right, true_from_ne_false}
 use Rattle.std.proofs.lemmas.List.Folds.{list_any_at}
 use Rattle.std.specs.List.{filter}
+use Rattle.std.proofs.lemmas.Option.{same_Some}
 use Rattle.mat_sets.specs.Sets.{is_member, AreDistinct, IsRising, IsSet, IsSubset, intersection, minus, with_one}
 use Rattle.mat_sets.specs.SetTests.{is_set}
 use Rattle.mat_sets.proofs.Cardinalities.{length-minus-intersection}
@@ -136,14 +137,11 @@ module _ {n : ℕ} {sets : List (List ℕ)} {caps F I elements chosen : List ℕ
     outside = λ x i m h. false_from_ne_true _ (λ here.
         let one = (chosen_largest i m).1 in
         none_at x (unnamed_none (entry x) (is_element x h).1) i one.before one.filled here);
-    once = λ x i j m o here there. same_name i j
+    once = λ x i j m o here there. same_Some i j
         (sym (named_for_member sets caps I sound.family rises _ x i (chosen_largest i m).1 here)
         ∙ named_for_member sets caps I sound.family rises _ x j (chosen_largest j o).1 there);
     filled = λ i m. leb-true (get_or caps i 0) (length (intersection I (get_or sets i []))) (chosen_largest i m).1.filled;
   }
-    where
-      same_name : (i j : ℕ) → Some i ≡ Some j → i ≡ j
-      same_name i j e = cc
 
   pub filled_number : length elements + caps_sum caps chosen ≤ length I
   filled_number = number_apart sets caps I elements chosen (AreDistinct-rising chosen named.rising) apart

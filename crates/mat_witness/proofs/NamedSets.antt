@@ -7,6 +7,7 @@ use Rattle.std.proofs.lemmas.List.Elements.{All-replicate}
 use Rattle.std.specs.List.{filter}
 use Rattle.std.specs.Prelude.{IfSome}
 use Rattle.std.specs.Option.{is_some}
+use Rattle.std.proofs.lemmas.Option.{same_Some}
 use Rattle.mat_sets.specs.Sets.{AllBelow, is_member, IsRising, IsSet, intersection, with_one}
 use Rattle.mat_sets.proofs.Equalities.{intersection-commute}
 use Rattle.mat_sets.proofs.Ground.{below_member}
@@ -123,7 +124,7 @@ AreNamed-some named X chosen k place inside is before = record {
   all = λ x i m names. elim (or_cases (is_member x (take k X)) (eqb x (get_or X k 0)) (sym (is_member-take_more X k x inside) ∙ m)) [
     | inl earlier ↦ is_member-with_one i place chosen ∙ or_right (eqb i place) (is_member i chosen) (before.all x i earlier names)
     | inr now ↦ (
-        let same = same_name i place (sym names ∙ ap named (eqb-true x (get_or X k 0) now) ∙ is) in
+        let same = same_Some i place (sym names ∙ ap named (eqb-true x (get_or X k 0) now) ∙ is) in
         is_member-with_one i place chosen ∙ or_left (eqb i place) (is_member i chosen) (eq-eqb i place same))
   ];
   only = λ i m. elim (or_cases (eqb i place) (is_member i chosen) (sym (is_member-with_one i place chosen) ∙ m)) [
@@ -131,9 +132,6 @@ AreNamed-some named X chosen k place inside is before = record {
     | inr earlier ↦ (let found = before.only i earlier in (found.0, listed_more X k found.0 inside (inl found.1), found.2))
   ];
 }
-  where
-    same_name : (i j : ℕ) → Some i ≡ Some j → i ≡ j
-    same_name i j e = cc
 
 -- none is
 pub AreNamed-more : (named : ℕ → Option ℕ) (X chosen : List ℕ) (k : ℕ) → k < length X → named (get_or X k 0) ≡ None
@@ -179,7 +177,3 @@ pub unnamed_where_none : (entry : Option ℕ) (answer : Bool) → is_some entry 
 unnamed_where_none None false is = absurd (both_ways false refl is)
 unnamed_where_none (Some i) true is = absurd (both_ways false refl (sym is))
 unnamed_where_none _ _ is = refl
-
-pub none_since : (entry : Option ℕ) → ((i : ℕ) → entry ≡ Some i → ⊥) → entry ≡ None
-none_since None never = refl
-none_since (Some i) never = absurd (never i refl)

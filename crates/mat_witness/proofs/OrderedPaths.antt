@@ -8,7 +8,6 @@ use Rattle.std.proofs.lemmas.List.Sums.{list_all-from_AllPass}
 use Rattle.std.proofs.lemmas.Slice.Eq.{bytes_eq-Decides}
 use Rattle.std.specs.List.{All, concat, list_all}
 use Rattle.std.specs.Str.{bytes_eq}
-use Rattle.mat_sets.specs.Graphs.{IsGraph}
 use Rattle.mat_sets.specs.Sets.{is_member, union, AllBelow, AreDistinct, IsRising, IsSet}
 use Rattle.mat_sets.specs.SetTests.{are_distinct}
 use Rattle.mat_sets.proofs.DistinctLists.{length-items}
@@ -21,11 +20,10 @@ use Rattle.mat_sets.proofs.Truths.{or_none}
 use Rattle.mat_flow.specs.Paths.{first_of, last_of, AreDisjointPaths, IsLinking, IsPath, IsPathBetween}
 use Rattle.mat_flow.proofs.PathChoiceLaws.{ends_are_targets}
 use Rattle.mat_flow.proofs.PathFamilyLaws.{AreDisjointPaths-routes, AreDistinct-ends, AreRoutes-paths, ends_of, is_member-ends_of, last_of-paths_to, paths_to, route_to}
-use Rattle.mat_flow.proofs.Rows.{head_below}
 use Rattle.mat_linked.specs.GammoidLaws.{gammoid_laws}
 use Rattle.mat_linked.specs.Gammoids.{is_gammoid, is_path, vertices_of, IsGammoid}
 use Rattle.mat_linked.specs.LinkedSetLaws.{vertex_member, AreDistinct-vertices_of}
-use Rattle.mat_linked.specs.PathSearchLaws.{is_path-from}
+use Rattle.mat_linked.specs.PathSearchLaws.{is_path-from, path_below}
 use Rattle.mat_linked.proofs.LinkedAnswers.{is_gammoid-counted}
 use Rattle.mat_linked.proofs.VertexSets.{length-vertices_of}
 use Rattle.mat_witness.specs.FreeParts.{shows_paths}
@@ -92,13 +90,6 @@ paths_by_routes paths (v ∷ vs) =
 some_vertices : (arcs : List (ℕ × ℕ)) (path : List ℕ) → IsPath arcs path → 0 < length path
 some_vertices arcs [] joined = absurd joined
 some_vertices arcs (v ∷ path) joined = omega arith
-
-vertices_below : (vertices : ℕ) (arcs : List (ℕ × ℕ)) → IsGraph vertices arcs → (path : List ℕ) → IsPath arcs path → first_of path < vertices
-    → AllBelow vertices path
-vertices_below vertices arcs g [] joined first = absurd joined
-vertices_below vertices arcs g (v ∷ []) joined first = (first, tt)
-vertices_below vertices arcs g (v ∷ w ∷ rest) joined first =
-    (first, vertices_below vertices arcs g (w ∷ rest) joined.1 (head_below vertices arcs v w g.second joined.0))
 
 -- ---- the ends of the paths to the vertices of a set
 
@@ -205,7 +196,7 @@ module _ {vertices : ℕ} {arcs : List (ℕ × ℕ)} {sources targets : List ℕ
         ranged = All-weaker (IsPathBetween arcs sources ends) (λ path. (0 < length path) × AllBelow vertices path)
             (λ path p. (
               some_vertices arcs path p.joined,
-              vertices_below vertices arcs given.graph path p.joined
+              path_below vertices arcs given.graph path p.joined
                   (AllBelow-member vertices sources (first_of path) given.sources_inside.below p.starts),
             )) ordered ordered_disjoint.each;
         shows = ordered_shows;

@@ -17,10 +17,12 @@ use Rattle.mat_sets.proofs.Members.{is_member-filter, is_member-intersection, is
 use Rattle.mat_sets.proofs.Subsets.{intersection-left, intersection-right, length-subset}
 use Rattle.mat_laws.specs.Matroids.{IsMaximal}
 use Rattle.mat_laws.proofs.Maximal.{IsMaximal-largest}
-use Rattle.mat_flow.specs.Paths.{first_of, has_arc, last_of, IsLinking, IsPathBetween, IsSeparator}
+use Rattle.mat_flow.specs.Paths.{has_arc, last_of, IsLinking, IsPathBetween, IsSeparator}
 use Rattle.mat_flow.proofs.PathChoiceLaws.{ends_are_targets}
 use Rattle.mat_flow.proofs.PathFamilyLaws.{AreDistinct-ends}
 use Rattle.mat_flow.proofs.Rows.{head_below}
+use Rattle.mat_flow.proofs.DisjointPaths.{first_of_is}
+use Rattle.mat_flow.proofs.RouteSearchLaws.{last_of-index}
 use Rattle.mat_linked.specs.GammoidLaws.{gammoid_laws, is_gammoid-from}
 use Rattle.mat_linked.specs.Gammoids.{is_gammoid, vertices_of, IsGammoid}
 use Rattle.mat_linked.specs.LinkedSetLaws.{linked_by, member_vertex, vertex_member}
@@ -30,7 +32,7 @@ use Rattle.mat_witness.specs.BoundParts.{are_closed_off, is_in_either}
 use Rattle.mat_witness.specs.GammoidSteps.{is_open_arc, AreArcRows}
 use Rattle.mat_witness.proofs.ListedMembers.{list_all-from}
 use Rattle.mat_witness.proofs.PathParts.{stays_in_either}
-use Rattle.mat_witness.proofs.SourcePaths.{is_path-steps, last_of-get_or}
+use Rattle.mat_witness.proofs.SourcePaths.{is_path-steps}
 
 all_stay : (arcs : List (ℕ × ℕ)) (reached closing : List ℕ)
     → ((u v : ℕ) → is_member u reached ≡ true → has_arc arcs u v ≡ true → is_in_either reached closing v ≡ true)
@@ -45,12 +47,6 @@ all_stay (arc ∷ arcs) reached closing each =
       | inr out ↦ or_left (not (is_member arc.0 reached)) (is_in_either reached closing arc.1) (not_from_false (is_member arc.0 reached) out)
     ])
     (all_stay arcs reached closing (λ u v m a. each u v m (or_right (eqb arc.0 u && eqb arc.1 v) (has_arc arcs u v) a)))
-
--- ---- the first vertex by its place
-
-first_of-get_or : (path : List ℕ) → first_of path ≡ get_or path 0 0
-first_of-get_or [] = refl
-first_of-get_or (v ∷ path) = refl
 
 -- ---- the sets
 
@@ -95,8 +91,8 @@ module _ (vertices : ℕ) (arcs : List (ℕ × ℕ)) (sources ends closed reache
   walk_is_path : (v : ℕ) (walk : List ℕ) → is_member v ends ≡ true → IsOpenWalk v walk → IsPathBetween arcs sources ends walk
   walk_is_path v walk end w = record {
     joined = is_path-gives arcs walk (is_path-steps arcs walk (let l = w.long in omega arith) (λ k l. (open_step v walk w k l).1));
-    starts = ap (λ u. is_member u sources) (first_of-get_or walk) ∙ w.first;
-    ends = ap (λ u. is_member u ends) (last_of-get_or walk w.arcs w.long ∙ eqb-true (get_or walk w.arcs 0) v w.last) ∙ end;
+    starts = ap (λ u. is_member u sources) (first_of_is walk) ∙ w.first;
+    ends = ap (λ u. is_member u ends) (last_of-index walk w.arcs w.long ∙ eqb-true (get_or walk w.arcs 0) v w.last) ∙ end;
   }
 
   -- and misses the separator, where v is none of its vertices

@@ -11,6 +11,7 @@ use Rattle.mat_sets.specs.SetTests.{are_distinct}
 use Rattle.mat_sets.proofs.Members.{is_member-get_or}
 use Rattle.mat_sets.proofs.Sums.{AllBelow-at}
 use Rattle.mat_flow.specs.Paths.{has_arc, last_of}
+use Rattle.mat_flow.proofs.RouteSearchLaws.{last_of-index}
 use Rattle.mat_linked.specs.Gammoids.{is_path}
 use Rattle.mat_witness.specs.GammoidSteps.{AreArcRows}
 
@@ -52,17 +53,11 @@ module _ (rows : List (List ℕ)) (path : List ℕ) (below : AllBelow (length ro
 
 -- ---- last vertices
 
--- the last vertex by its place
-pub last_of-get_or : (path : List ℕ) (k : ℕ) → length path ≡ suc k → last_of path ≡ get_or path k 0
-last_of-get_or (v ∷ []) zero long = refl
-last_of-get_or (v ∷ w ∷ rest) (suc k) long = last_of-get_or (w ∷ rest) k (omega arith)
-last_of-get_or _ k long = absurd (omega arith)
-
 -- the last vertices of the first paths, and of one path more
 last_of-more : (lists : List (List ℕ)) (i : ℕ) (path : List ℕ) → i < length lists → path ≡ get_or lists i path → 0 < length path
     → map last_of (take i lists) ++ get_or path (length path - 1) 0 ∷ [] ≡ map last_of (take (i + 1) lists)
 last_of-more lists i path inside at some =
-    let last = last_of-get_or path (length path - 1) (omega arith) in
+    let last = last_of-index path (length path - 1) (omega arith) in
     ap (λ v. map last_of (take i lists) ++ v ∷ []) (sym last ∙ ap last_of at)
     ∙ sym (ap (map last_of) (take_more lists i path inside) ∙ map-append last_of (take i lists) (get_or lists i path ∷ []))
 

@@ -14,3 +14,4 @@ pub mod BinaryLaws
 pub mod LineReading
 pub mod ItemLines
 pub mod NameLemmas
+pub mod WordBytes

@@ -1,4 +1,4 @@
-use Rattle.mat_call.proofs.LineWords.{word_utf8}
+use Rattle.mat_words.proofs.WordBytes.{word_utf8}
 use Rattle.mat_call.proofs.words.word_text.Goals as goal
 
 pub unreachable-requires : goal.unreachable-requires

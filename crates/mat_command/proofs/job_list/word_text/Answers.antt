@@ -1,4 +1,4 @@
-use Rattle.mat_command.proofs.JobReading.{word_utf8}
+use Rattle.mat_words.proofs.WordBytes.{word_utf8}
 use Rattle.mat_command.proofs.job_list.word_text.Goals as goal
 
 pub unreachable-requires : goal.unreachable-requires

@@ -1,6 +1,7 @@
 use Rattle.std.proofs.Common.{◌+◌, ℕ, None, get_or, take, sym, ◌∙◌, subst}
+use Rattle.mat_flow.proofs.LinkTables.{none_from}
 use Rattle.mat_witness.specs.FilledSets.{AreNamed}
-use Rattle.mat_witness.proofs.NamedSets.{AreNamed-more, AreNamed-some, listed_below, none_since}
+use Rattle.mat_witness.proofs.NamedSets.{AreNamed-more, AreNamed-some, listed_below}
 use Rattle.mat_witness.proofs.parts.counted.named_sets.Goals as goal
 use Rattle.mat_witness.proofs.parts.counted.named_sets.Goals.{in-Some+in_ok-add, in_default}
 
@@ -20,5 +21,5 @@ loop-x-preserved c =
           (AreNamed-some named set c.loop-x.chosen i w.in-Some.place inside (rw items at w.in-Some.is) c.loop-x.invariant)
       | in_default w ↦
           subst (AreNamed named (take (i + 1) set)) (sym w.chosen-is)
-          (AreNamed-more named set c.loop-x.chosen i inside (none_since (named (get_or set i 0)) (rw items at w.in_default.not-Some)) c.loop-x.invariant)
+          (AreNamed-more named set c.loop-x.chosen i inside (none_from (named (get_or set i 0)) (rw items at w.in_default.not-Some)) c.loop-x.invariant)
     ]
