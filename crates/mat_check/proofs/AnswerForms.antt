@@ -1,5 +1,5 @@
 -- The forms of answers that fit a problem: what holds of each of these forms holds of every answer that fits, and a right one does.
-use Rattle.std.proofs.Common.{◌≡◌, ◌↔◌, ℕ, true, List, [], ◌∷◌, length, Option, None, refl, arith}
+use Rattle.std.proofs.Common.{◌≡◌, ◌↔◌, ◌==◌, ℕ, true, List, [], ◌∷◌, length, Option, None, refl, arith}
 use Rattle.std.proofs.lemmas.Bool.{eqb-true, false≢true}
 use Rattle.mat_sets.specs.declared.weight.Weight.{Weight}
 use Rattle.mat_any.specs.Trees.{Tree}
@@ -13,7 +13,7 @@ use Rattle.mat_cert.specs.declared.answer.PlainRung.{PlainRung}
 use Rattle.mat_cert.specs.declared.answer.PricedRung.{PricedRung}
 use Rattle.mat_right.specs.Right.{IsRight}
 use Rattle.mat_check.specs.AnswerClauses.{failure_of}
-use Rattle.mat_check.specs.Fitting.{fits, is_pair, is_list, is_single, is_graph, is_rooted, is_coloured, is_table}
+use Rattle.mat_check.specs.Fitting.{fits}
 use Rattle.mat_check.specs.Optimal.{IsOptimal}
 
 -- ---- what is shown of each form
@@ -26,39 +26,6 @@ RightHasNoFailure instance answer =
 -- no better answer exists than a right one
 abbrev pub RightIsOptimal : Instance → Certificate → Type 0
 RightIsOptimal instance answer = IsValid instance → IsSoundInstance instance → IsRight instance answer → IsOptimal instance answer
-
--- ---- the forms of problems
-
-module _ (P : Instance → Type 0) where
-  on_pair : ((w : List Weight) (first second : Tree) → P (pair w first second)) → (instance : Instance) → is_pair instance ≡ true → P instance
-  on_pair f (pair w first second) h = f w first second
-  on_pair f _ h = absurd (false≢true h)
-
-  on_list : ((w : List Weight) (matroids : List Tree) → P (list w matroids)) → (instance : Instance) → is_list instance ≡ true → P instance
-  on_list f (list w matroids) h = f w matroids
-  on_list f _ h = absurd (false≢true h)
-
-  on_graph : ((vertices : ℕ) (edges : List (ℕ × ℕ)) → P (graph vertices edges)) → (instance : Instance) → is_graph instance ≡ true → P instance
-  on_graph f (graph vertices edges) h = f vertices edges
-  on_graph f _ h = absurd (false≢true h)
-
-  on_rooted : ((vertices root : ℕ) (arcs : List (ℕ × ℕ)) (costs : List Weight) → P (rooted vertices root arcs costs)) → (instance : Instance) → is_rooted instance ≡ true → P instance
-  on_rooted f (rooted vertices root arcs costs) h = f vertices root arcs costs
-  on_rooted f _ h = absurd (false≢true h)
-
-  on_coloured : ((vertices colours : ℕ) (edges : List (ℕ × ℕ)) (colour_of : List ℕ) (w : List Weight) → P (coloured vertices colours edges colour_of w)) → (instance : Instance) → is_coloured instance ≡ true → P instance
-  on_coloured f (coloured vertices colours edges colour_of w) h = f vertices colours edges colour_of w
-  on_coloured f _ h = absurd (false≢true h)
-
-  on_table : ((rows columns : ℕ) (cells : List (ℕ × ℕ)) (w : List Weight) → P (table rows columns cells w)) → (instance : Instance) → is_table instance ≡ true → P instance
-  on_table f (table rows columns cells w) h = f rows columns cells w
-  on_table f _ h = absurd (false≢true h)
-
-  on_single : ((w : List Weight) (matroid : Tree) → P (list w (matroid ∷ []))) → (instance : Instance) → is_single instance ≡ true → P instance
-  on_single f (list w (matroid ∷ [])) h = f w matroid
-  on_single f (list w (matroid ∷ other ∷ others)) h =
-      let one = eqb-true (length (matroid ∷ other ∷ others)) 1 h in absurd (omega arith)
-  on_single f _ h = absurd (false≢true h)
 
 -- ---- the forms of answers
 
@@ -95,39 +62,35 @@ pub record OnEachForm (P : Instance → Certificate → Type 0) : Type 0 where
   pub assignment : (rows columns : ℕ) (cells : List (ℕ × ℕ)) (w : List Weight) (n r c : ℕ) (rungs : List PricedRung) (cut : List ℕ)
       → P (table rows columns cells w) (assign n r c rungs cut)
 
+-- two matroids are not one
+not_single : (matroid other : Tree) (others : List Tree) → (length (matroid ∷ other ∷ others) == 1) ≡ true → ⊥
+not_single matroid other others h = let one = eqb-true (length (matroid ∷ other ∷ others)) 1 h in omega arith
+
 -- holds of every answer that fits
 pub by_fitting : (P : Instance → Certificate → Type 0) → OnEachForm P → (answer : Certificate) (instance : Instance)
     → fits instance answer ≡ true → P instance answer
-by_fitting P each (intersect n rungs cut) instance h =
-    on_pair (λ i. P i (intersect n rungs cut)) (λ w first second. each.ladder w first second n rungs cut) instance h
-by_fitting P each (best n rungs) instance h =
-    on_single (λ i. P i (best n rungs)) (λ w matroid. each.single w matroid n rungs) instance h
-by_fitting P each (union_of n weight parts levels) instance h =
-    on_list (λ i. P i (union_of n weight parts levels)) (λ w matroids. each.union w matroids n weight parts levels) instance h
-by_fitting P each (pack_any n) instance h =
-    on_single (λ i. P i (pack_any n)) (λ w matroid. each.packing_of_none w matroid n) instance h
-by_fitting P each (pack n bases cut) instance h =
-    on_single (λ i. P i (pack n bases cut)) (λ w matroid. each.packing w matroid n bases cut) instance h
-by_fitting P each (cover_never n loop_at) instance h =
-    on_single (λ i. P i (cover_never n loop_at)) (λ w matroid. each.loop w matroid n loop_at) instance h
-by_fitting P each (cover n sets cut) instance h =
-    on_single (λ i. P i (cover n sets cut)) (λ w matroid. each.covering w matroid n sets cut) instance h
-by_fitting P each (trees n sets) instance h =
-    on_graph (λ i. P i (trees n sets)) (λ vertices edges. each.trees_found vertices edges n sets) instance h
-by_fitting P each (trees_none n k v classes) instance h =
-    on_graph (λ i. P i (trees_none n k v classes)) (λ vertices edges. each.partition vertices edges n k v classes) instance h
-by_fitting P each (arbor n cost tree first second) instance h =
-    on_rooted (λ i. P i (arbor n cost tree first second)) (λ vertices root arcs costs. each.arborescence vertices root arcs costs n cost tree first second) instance h
-by_fitting P each (unreached n v set) instance h =
-    on_rooted (λ i. P i (unreached n v set)) (λ vertices root arcs costs. each.unreached_set vertices root arcs costs n v set) instance h
-by_fitting P each (disjoint n sets) instance h =
-    on_rooted (λ i. P i (disjoint n sets)) (λ vertices root arcs costs. each.arborescences vertices root arcs costs n sets) instance h
-by_fitting P each (disjoint_none n k v set) instance h =
-    on_rooted (λ i. P i (disjoint_none n k v set)) (λ vertices root arcs costs. each.seldom_entered vertices root arcs costs n k v set) instance h
-by_fitting P each (rainbow n v c rungs cut missing) instance h =
-    on_coloured (λ i. P i (rainbow n v c rungs cut missing)) (λ vertices colours edges colour_of w. each.rainbow_ladder vertices colours edges colour_of w n v c rungs cut missing) instance h
-by_fitting P each (assign n r c rungs cut) instance h =
-    on_table (λ i. P i (assign n r c rungs cut)) (λ rows columns cells w. each.assignment rows columns cells w n r c rungs cut) instance h
+by_fitting P each (intersect n rungs cut) (pair w first second) h = each.ladder w first second n rungs cut
+by_fitting P each (union_of n weight parts levels) (list w matroids) h = each.union w matroids n weight parts levels
+by_fitting P each (best n rungs) (list w (matroid ∷ [])) h = each.single w matroid n rungs
+by_fitting P each (best n rungs) (list w (matroid ∷ other ∷ others)) h = absurd (not_single matroid other others h)
+by_fitting P each (pack_any n) (list w (matroid ∷ [])) h = each.packing_of_none w matroid n
+by_fitting P each (pack_any n) (list w (matroid ∷ other ∷ others)) h = absurd (not_single matroid other others h)
+by_fitting P each (pack n bases cut) (list w (matroid ∷ [])) h = each.packing w matroid n bases cut
+by_fitting P each (pack n bases cut) (list w (matroid ∷ other ∷ others)) h = absurd (not_single matroid other others h)
+by_fitting P each (cover_never n loop_at) (list w (matroid ∷ [])) h = each.loop w matroid n loop_at
+by_fitting P each (cover_never n loop_at) (list w (matroid ∷ other ∷ others)) h = absurd (not_single matroid other others h)
+by_fitting P each (cover n sets cut) (list w (matroid ∷ [])) h = each.covering w matroid n sets cut
+by_fitting P each (cover n sets cut) (list w (matroid ∷ other ∷ others)) h = absurd (not_single matroid other others h)
+by_fitting P each (trees n sets) (graph vertices edges) h = each.trees_found vertices edges n sets
+by_fitting P each (trees_none n k v classes) (graph vertices edges) h = each.partition vertices edges n k v classes
+by_fitting P each (arbor n cost tree first second) (rooted vertices root arcs costs) h = each.arborescence vertices root arcs costs n cost tree first second
+by_fitting P each (unreached n v set) (rooted vertices root arcs costs) h = each.unreached_set vertices root arcs costs n v set
+by_fitting P each (disjoint n sets) (rooted vertices root arcs costs) h = each.arborescences vertices root arcs costs n sets
+by_fitting P each (disjoint_none n k v set) (rooted vertices root arcs costs) h = each.seldom_entered vertices root arcs costs n k v set
+by_fitting P each (rainbow n v c rungs cut missing) (coloured vertices colours edges colour_of w) h =
+    each.rainbow_ladder vertices colours edges colour_of w n v c rungs cut missing
+by_fitting P each (assign n r c rungs cut) (table rows columns cells w) h = each.assignment rows columns cells w n r c rungs cut
+by_fitting P each answer instance h = absurd (false≢true h)
 
 -- a right answer fits
 pub right_fits : (instance : Instance) (answer : Certificate) → IsRight instance answer → fits instance answer ≡ true
