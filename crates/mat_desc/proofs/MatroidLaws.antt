@@ -352,17 +352,7 @@ node_again naming room n named inner right p (union ts) lines rest valid shallow
 -- a matroid stands in itself
 depth_some : (tree : Tree) → 1 ≤ depth tree
 depth_some (uniform m cap) = omega arith
-depth_some (partition m classes caps) = omega arith
-depth_some (laminar m sets caps) = omega arith
-depth_some (graphic vertices edges) = omega arith
-depth_some (transversal m family) = omega arith
-depth_some (gammoid vertices arcs sources targets) = omega arith
-depth_some (gf2 dim columns) = omega arith
-depth_some (dual t) = omega arith
-depth_some (truncate cap t) = omega arith
-depth_some (restrict kept t) = omega arith
-depth_some (contract away t) = omega arith
-depth_some (union ts) = omega arith
+depth_some _ = omega arith
 
 within_again : (room : ℕ) (naming : Naming) (n : ℕ) → IsNaming n naming → SpelledIsRead naming room n (matroid_within room naming n)
 unfolding matroid_within
