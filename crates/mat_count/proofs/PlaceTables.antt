@@ -92,7 +92,9 @@ IsPlaced-more before table S place k inside long small placed = record {
 
     here : (a b c : Bool) → (b || ((a && b) || c)) ≡ ((true && b) || c)
     here true true c = refl
-    here _ _ c = refl
+    here true false c = refl
+    here false true c = refl
+    here false false c = refl
 
 -- the same, as the loop reads and writes the table
 pub IsPlaced-next : (before table : List (List ℕ)) (S : List ℕ) (place k x : ℕ) (old after : List ℕ) → k < length S → x ≡ get_or S k 0

@@ -21,7 +21,9 @@ with_each set (x ∷ xs) = with_each (with_one set x) xs
 
 or_swap : (a b c : Bool) → (a || (b || c)) ≡ ((b || a) || c)
 or_swap true true c = refl
-or_swap _ _ c = refl
+or_swap true false c = refl
+or_swap false true c = refl
+or_swap false false c = refl
 
 pub is_member-with_each : (k : ℕ) (set xs : List ℕ) → is_member k (with_each set xs) ≡ (is_member k xs || is_member k set)
 unfolding with_each

@@ -4,8 +4,10 @@ use Rattle.std.proofs.lemmas.List.{take_more}
 use Rattle.std.specs.List.{AllByRecursion}
 
 pub AllByRecursion-take : {X : Type 0} (P : X → Type 0) (xs : List X) (i : ℕ) → AllByRecursion P xs → AllByRecursion P (take i xs)
+AllByRecursion-take P [] zero all = tt
+AllByRecursion-take P [] (suc i) all = tt
+AllByRecursion-take P (x ∷ xs) zero all = tt
 AllByRecursion-take P (x ∷ xs) (suc i) all = (all.0, AllByRecursion-take P xs i all.1)
-AllByRecursion-take P _ _ all = tt
 
 pub AllByRecursion-at : {X : Type 0} (P : X → Type 0) (xs : List X) (i : ℕ) (d : X) → i < length xs → AllByRecursion P xs
     → P (get_or xs i d)

@@ -25,8 +25,10 @@ is_member-take_more (x ∷ t) (suc i) k h = rw (add-one (suc i)) (rest (rw (add-
     rest e = rw e (or_assoc (eqb k x) (is_member k (take i t)) (eqb k (get_or t i 0)))
 
 RisesFrom-take : (lo : ℕ) (xs : List ℕ) (i : ℕ) → RisesFrom lo xs → RisesFrom lo (take i xs)
+RisesFrom-take lo [] zero r = tt
+RisesFrom-take lo [] (suc i) r = tt
+RisesFrom-take lo (x ∷ t) zero r = tt
 RisesFrom-take lo (x ∷ t) (suc i) r = (r.0, RisesFrom-take (suc x) t i r.1)
-RisesFrom-take lo _ _ r = tt
 
 pub IsRising-take : (xs : List ℕ) (i : ℕ) → IsRising xs → IsRising (take i xs)
 IsRising-take xs i r = record { rises = RisesFrom-take 0 xs i r.rises }

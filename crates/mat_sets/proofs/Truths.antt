@@ -12,7 +12,9 @@ or_assoc false b c = refl
 
 pub or_commute : (a b : Bool) → (a || b) ≡ (b || a)
 or_commute true true = refl
-or_commute _ _ = refl
+or_commute true false = refl
+or_commute false true = refl
+or_commute false false = refl
 
 pub or_swap : (a b c : Bool) → (a || (b || c)) ≡ (b || (a || c))
 or_swap true true c = refl

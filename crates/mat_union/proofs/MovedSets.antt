@@ -52,7 +52,9 @@ entering-found start set moves q i r l here e =
 
     turn : (a b c : Bool) → (a || (b || c)) ≡ ((b || a) || c)
     turn true true c = refl
-    turn _ _ c = refl
+    turn true false c = refl
+    turn false true c = refl
+    turn false false c = refl
 
 pub entering-passed : (moves : List Move) (q i : ℕ) → i < length moves → eqb (get_or moves i no_move).part q ≡ false
     → entering (take (i + 1) moves) q ≡ entering (take i moves) q

@@ -144,7 +144,9 @@ weight_exact low high w word = (weight_taken low high word w, λ p. ap (weight_i
 both_numbers : (p q : Bool) (x y : ℤ)
     → cond (p && q) (Ok (record { main = x; tie = y })) (Err Range) ≡ both_in (cond p (Ok x) (Err Range)) (cond q (Ok y) (Err Range))
 both_numbers true true x y = refl
-both_numbers _ _ x y = refl
+both_numbers true false x y = refl
+both_numbers false true x y = refl
+both_numbers false false x y = refl
 
 misspelled_tie : (p : Bool) (x : ℤ) → Err Spelling ≡ both_in (cond p (Ok x) (Err Range)) (Err Spelling)
 misspelled_tie true x = refl
