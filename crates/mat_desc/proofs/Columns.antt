@@ -13,9 +13,10 @@ zip-push (a ∷ xs) [] x y same = absurd (omega arith)
 zip-push {A} {B} (a ∷ xs) (b ∷ ys) x y same = ap (λ (t : List (A × B)). (a, b) ∷ t) (zip-push xs ys x y (omega arith))
 
 pub length-zip_same : {A B : Type 0} (xs : List A) (ys : List B) → length ys ≡ length xs → length (zip xs ys) ≡ length xs
+length-zip_same [] [] same = refl
+length-zip_same [] (b ∷ ys) same = refl
 length-zip_same (a ∷ xs) [] same = absurd (omega arith)
 length-zip_same (a ∷ xs) (b ∷ ys) same = ap suc (length-zip_same xs ys (omega arith))
-length-zip_same _ _ same = refl
 
 -- one more item of each of three lists
 pub zip-push_two : {A B C : Type 0} (xs : List A) (ys : List B) (zs : List C) (x : A) (y : B) (z : C) → length ys ≡ length xs

@@ -131,9 +131,10 @@ multiplicity-more k (a ∷ t) (suc i) h = rw (add-one (suc i)) (let ih = rw (add
 
 pub family_union-none : (sets : List (List ℕ)) (i : ℕ) → length sets ≤ i → family_union (drop i sets) ≡ []
 unfolding family_union
+family_union-none [] zero h = refl
+family_union-none [] (suc i) h = refl
 family_union-none (a ∷ t) zero h = absurd (omega arith)
 family_union-none (a ∷ t) (suc i) h = family_union-none t i (omega arith)
-family_union-none _ _ h = refl
 
 pub family_union-less : (sets : List (List ℕ)) (i : ℕ) → i < length sets
     → family_union (drop i sets) ≡ union (get_or sets i []) (family_union (drop (i + 1) sets))

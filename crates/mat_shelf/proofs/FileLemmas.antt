@@ -84,12 +84,13 @@ held_in-files_with_fault (f ∷ fs) m n = elim (cases_Bool (has_name m f)) [
 
 -- a raised count leaves the file that is open
 pub open_at-files_with_fault : (files : List FileState) (m : List ℕ) (place : Option ℕ) (from : ℕ) → open_at (files_with_fault files m) place from ≡ open_at files place from
+open_at-files_with_fault files m None from = refl
+open_at-files_with_fault [] m (Some i) from = refl
 open_at-files_with_fault (f ∷ fs) m (Some zero) from = elim (cases_Bool (has_name m f)) [ inl same ↦ rw same refl | inr other ↦ rw other refl ]
 open_at-files_with_fault (f ∷ fs) m (Some (suc i)) from = elim (cases_Bool (has_name m f)) [
   | inl same ↦ rw same refl
   | inr other ↦ rw other (open_at-files_with_fault fs m (Some i) from)
 ]
-open_at-files_with_fault files m _ from = refl
 
 -- the count of the call's name is raised
 pub count_in-raised : (files : List FileState) (other : ℕ) (m : List ℕ) → count_in (files_with_fault files m) (other_with_fault files other m) m ≡ next_count (count_in files other m)

@@ -14,16 +14,26 @@ IsRising-exchanged_along I path r = IsRising-union (minus path I) (minus I path)
 taken : (so_far member here : Bool) → (here ≡ true → member ≡ true)
     → (((so_far && not member) || (member && not so_far)) && not here)
     ≡ (((so_far || here) && not member) || (member && not (so_far || here)))
+taken true true true h = refl
+taken true true false h = refl
 taken true false true h = absurd (both_ways _ refl (h refl))
+taken true false false h = refl
+taken false true true h = refl
+taken false true false h = refl
 taken false false true h = absurd (both_ways _ refl (h refl))
-taken _ _ _ h = refl
+taken false false false h = refl
 
 added : (so_far member here : Bool) → (here ≡ true → member ≡ false)
     → (here || ((so_far && not member) || (member && not so_far)))
     ≡ (((so_far || here) && not member) || (member && not (so_far || here)))
 added true true true h = absurd (both_ways _ (h refl) refl)
+added true true false h = refl
+added true false true h = refl
+added true false false h = refl
 added false true true h = absurd (both_ways _ (h refl) refl)
-added _ _ _ h = refl
+added false true false h = refl
+added false false true h = refl
+added false false false h = refl
 
 -- along no path nothing is exchanged
 pub exchanged_along_none : (I : List ℕ) → IsRising I → I ≡ exchanged_along I []

@@ -52,8 +52,9 @@ insert_more set set' items i start l before is v =
     turn false false false = refl
 
 pub insert_none : (items : List ℕ) (b : Bool) (v : ℕ) → b ≡ (b || is_member v (take 0 items))
+insert_none items true v = refl
 insert_none [] false v = refl
-insert_none items _ v = refl
+insert_none (x ∷ items) false v = refl
 
 pub pushed_more : (rows : List (List Exchange)) (row : List Exchange) (x : Exchange) (i u : ℕ) (set set' items : List ℕ) → row ≡ get_or rows i row → i < length rows → x ≡ row_in row u
     → ((v : ℕ) → is_member v set ≡ can_push i (exchanges_of rows) u v) → items ≡ x.with → ((v : ℕ) → is_member v set' ≡ (is_member v set || is_member v items))

@@ -123,8 +123,9 @@ module _ (n : ℕ) where
   meeting_kinds : (ds : List Demand) (ps qs : List BoundPart) (trees : List Tree) → AllZip (IsMeeting n) ds ps → AreBoundsFor n trees qs
       → AreBoundsFor n (map (λ demand. demand.tree) ds ++ trees) (ps ++ qs)
   meeting_kinds [] [] qs trees a b = b
+  meeting_kinds [] (p ∷ ps) qs trees a b = absurd a
+  meeting_kinds (d ∷ ds) [] qs trees a b = absurd a
   meeting_kinds (d ∷ ds) (p ∷ ps) qs trees a b = (a.0.kind, meeting_kinds ds ps qs trees a.1 b)
-  meeting_kinds _ _ qs _ a b = absurd a
 
   meeting_met : (ds : List Demand) (ps qs : List BoundPart) → AllZip (IsMeeting n) ds ps → are_met ds (ps ++ qs) ≡ true
   meeting_met [] ps qs a = refl

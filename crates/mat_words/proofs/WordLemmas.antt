@@ -76,6 +76,8 @@ stops_at_other line i start lt space letter so_far =
 -- at the end of the line
 pub at_line_end : (line : List ℕ) (i : ℕ) (start : Bool) → length line ≤ i → spaced_from start (drop i line) ≡ spaced_from true line
     → cond start (eqb (length line) 0) true ≡ is_well_spaced line
+at_line_end [] i true le so_far = refl
+at_line_end [] i false le so_far = refl
 at_line_end (b ∷ bs) i true le so_far =
     let one : spaced_from true (drop i (b ∷ bs)) ≡ false = rw (drop_all i (b ∷ bs) le) refl in
     let some : eqb (length (b ∷ bs)) 0 ≡ false = ne_eqb (length (b ∷ bs)) 0 (λ e. omega arith) in
@@ -83,7 +85,6 @@ at_line_end (b ∷ bs) i true le so_far =
 at_line_end (b ∷ bs) i false le so_far =
     let one : spaced_from false (drop i (b ∷ bs)) ≡ true = rw (drop_all i (b ∷ bs) le) refl in
     sym one ∙ so_far ∙ well_spaced_is (b ∷ bs) (omega arith)
-at_line_end _ i _ le so_far = refl
 
 -- ---- the walk along a text, whose lines are not cut yet
 
