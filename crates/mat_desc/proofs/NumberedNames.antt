@@ -14,6 +14,7 @@ use Rattle.mat_words.specs.Numbers.{numeral, number_of}
 use Rattle.mat_words.specs.Words.{is_letter, is_word}
 use Rattle.mat_words.specs.Names.{longest_name, is_name, AreNames}
 use Rattle.mat_words.proofs.NumberLemmas.{read_again, numeral_word}
+use Rattle.mat_words.proofs.WordLemmas.{word_letters}
 use Rattle.mat_desc.specs.Notations.{numbered}
 
 some_number : (x y : ℕ) → Some (pos x) ≡ Some (pos y) → x ≡ y
@@ -30,15 +31,11 @@ numeral-short (suc x) small =
     let digits : length (digits_of 10 (suc x)) ≤ 10 = length-digits_of-le 10 10 (suc x) (omega arith) (omega (arith, small)) in
     omega (arith, length-map (digits_of 10 (suc x)) (λ d. 48 + d), digits)
 
-letters : (word : List ℕ) → is_word word ≡ true → list_all is_letter word ≡ true
-letters [] e = absurd cc
-letters (b ∷ bs) e = e
-
 -- a letter in front of a number below 2 ^ 32 is a name
 pub is_name-numbered : (letter x : ℕ) → is_letter letter ≡ true → x < 2 ^ 32 → is_name (letter ∷ numeral (pos x)) ≡ true
 is_name-numbered letter x good small =
     and_from (is_word (letter ∷ numeral (pos x))) (nat_le (length (letter ∷ numeral (pos x))) longest_name)
-    (and_from (is_letter letter) (list_all is_letter (numeral (pos x))) good (letters (numeral (pos x)) (numeral_word (pos x))))
+    (and_from (is_letter letter) (list_all is_letter (numeral (pos x))) good (word_letters (numeral (pos x)) (numeral_word (pos x))))
     (le-leb (length (letter ∷ numeral (pos x))) longest_name (omega (arith, numeral-short x small)))
 
 -- as many names as numbers

@@ -1,5 +1,5 @@
 -- Digits read from the left, as far as a bound, and digits written from the right, one at a time.
-use Rattle.std.proofs.Common.{◌≡◌, Bool, true, false, cond, Option, Some, None, ℕ, zero, suc, ◌+◌, ◌-◌, ◌*◌, ◌/◌, ◌%◌, ◌^◌, ◌<◌, ◌≤◌}
+use Rattle.std.proofs.Common.{◌≡◌, ℕ, zero, suc, ◌+◌, ◌-◌, ◌*◌, ◌/◌, ◌%◌, ◌^◌, ◌<◌, ◌≤◌}
 use Rattle.std.proofs.Common.{min, List, [], ◌∷◌, ◌++◌, map, length, get_or, take, drop, set, refl, ap, ◌∙◌}
 use Rattle.std.proofs.Common.{arith}
 use Rattle.std.specs.Int.Digits.{number_from_digits, digits_of}
@@ -66,12 +66,6 @@ pub counted_short : (cs : List ℕ) (i n : ℕ) → length cs ≤ i → 0 < leng
 counted_short cs i n past some first e =
     let whole : n ≡ value_of cs = e ∙ ap value_of (take_all i cs past) in
     omega (arith, first_counts cs some first)
-
--- a value that fits 64 bits is not cut at the bound
-pub uncut : (b : Bool) (v : ℕ) (o : Option ℕ) → ((n : ℕ) → o ≡ Some n → n < 2 ^ 64) → o ≡ cond b (Some v) None
-    → o ≡ cond b (Some (min v magnitude_bound)) None
-uncut true v o small e = e ∙ ap Some (let l = small v e in omega arith)
-uncut false v o small e = e
 
 -- the digits of `left` are still to be written before the place `at`, and then those of n stand before the tail, which begins at `end`
 pub record IsPartWritten (n left at end : ℕ) (buffer tail : List ℕ) : Type 0 where
