@@ -8,6 +8,7 @@ use Rattle.mat_sets.proofs.Cardinalities.{length-with_one}
 use Rattle.mat_sets.proofs.DisjointSets.{with_one-holds}
 use Rattle.mat_sets.proofs.Ground.{below_member, IsSet-with_one, IsSet-without_one}
 use Rattle.mat_sets.proofs.Members.{is_member-with_one, is_member-without_one, same_members, IsRising-with_one, IsRising-without_one}
+use Rattle.mat_sets.proofs.Truths.{and_not_none}
 use Rattle.mat_flow.specs.LinkTables.{entry_at, is_there, leads_to, one_if_none, starts_in, with_there, HasEnds, HasPathLeft, IsLinkTable}
 use Rattle.mat_flow.proofs.LinkTables.{entry_set, leads_to_itself, none_is_not_some, some_is_one, starts_in-set}
 
@@ -149,14 +150,11 @@ HasPathLeft-all vertices arcs sources ends v before h m =
     let rises = IsRising-without_one ends v h.set.rising in
     record {
       set = IsSet-without_one vertices ends v h.set;
-      other = λ u e. ap (λ x. is_member x (without_one ends v)) (sym (some_is_one v u e)) ∙ is_member-without_one v v ends ∙ out (is_member v ends) (eqb v v) (eq-eqb v v refl);
+      other = λ u e. ap (λ x. is_member x (without_one ends v)) (sym (some_is_one v u e)) ∙ is_member-without_one v v ends ∙ and_not_none (is_member v ends) (eqb v v) (eq-eqb v v refl);
       linked = subst (λ X. HasEnds vertices arcs sources X before)
           (same_members ends (with_one (without_one ends v) v) h.set.rising (IsRising-with_one (without_one ends v) v rises) (λ k. sym (back k))) h;
     }
   where
-    out : (a b : Bool) → b ≡ true → (a && not b) ≡ false
-    out a b e = grind arith
-
     back : (k : ℕ) → is_member k (with_one (without_one ends v) v) ≡ is_member k ends
     back k = is_member-with_one k v (without_one ends v) ∙ ap (λ b. eqb k v || b) (is_member-without_one k v ends)
         ∙ at (eqb k v) (is_member k ends) (λ e. ap (λ x. is_member x ends) (eqb-true k v e) ∙ m)
