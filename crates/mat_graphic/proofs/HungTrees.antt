@@ -42,6 +42,12 @@ merged_apart p q r s other another same = elim (merged_cases p q r) [
 
 -- ---- the flags of a tree
 
+-- the flags of the first places
+pub record AreFirstFlags (before : List ℕ) (root at : ℕ) (inside : List Bool) : Type 0 where
+  pub long : length inside ≡ at
+  pub root_is : (k : ℕ) → k < at → get_or before k 0 ≡ k → get_or inside k false ≡ eqb k root
+  pub same : (k : ℕ) → k < at → get_or before k 0 < k → get_or inside k false ≡ get_or inside (get_or before k 0) false
+
 -- the flags tell the tree of the root
 pub flags_tell : (ends : ℕ → ℕ × ℕ) (X : List ℕ) (forest : RootedForest) (root : ℕ) (inside : List Bool)
     → IsOrder forest.place.items forest.order.items forest.through.items forest.before.items
