@@ -124,6 +124,7 @@ run_all() {
     run_reports
     run_by cc "memory that is refused" python3 tests/refused_memory.py "$program"
     run_by python3 "random problems for a minute" python3 tests/soak.py 60 1 "$program"
+    run_by rt "wrong bodies that the gate leaves out" tests/planted.sh
     run "the scripts for many machines" sh examples/many/try.sh
     run_over bindings/out/libmatbench.so "bindings/build.sh has not built them" "the bindings" bindings/test.sh "$program"
     run_release

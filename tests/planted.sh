@@ -1,0 +1,44 @@
+#!/bin/sh
+# Tries the wrong bodies of tests/planted/: each must be refused by the prover.
+#
+#   tests/planted.sh [CRATE..]    of these crates, or of all that have a folder there
+#
+# They belong to crates that are dear to prove, so the gate leaves them out. The crates are copied to a folder below TMPDIR (or /var/tmp), with
+# these edits alone, and `rt ci` proves what is not kept of the crates and tries the edits. The last line is `N passed, M failed`.
+set -u
+top=$(CDPATH='' cd -- "$(dirname -- "$(readlink -f -- "$0")")/.." && pwd) || exit 70
+planted=$top/tests/planted
+
+if [ $# -eq 0 ]; then
+    for folder in "$planted"/*/; do
+        set -- "$@" "$(basename "$folder")"
+    done
+fi
+
+room=$(mktemp -d "${TMPDIR:-/var/tmp}/planted.XXXXXX") || exit 70
+trap 'rm -rf "$room"' EXIT
+trap 'exit 130' INT TERM HUP
+
+# Copies the crates without what was built and without the edits of the gate.
+copy_crates() {
+    (cd "$top" && find crates -name out -prune -o -name must-fail -prune -o -type f -print | tar -cf - -T - crates.txt HANDLES) | tar -xf - -C "$room"
+}
+
+copy_crates || exit 70
+edits=0
+for name in "$@"; do
+    if [ ! -d "$planted/$name" ]; then
+        echo "planted.sh: no wrong bodies of $name are in $planted" >&2
+        exit 64
+    fi
+    mkdir -p "$room/crates/$name/must-fail" && cp "$planted/$name"/*.edit "$room/crates/$name/must-fail/" || exit 70
+    edits=$((edits + $(find "$planted/$name" -name '*.edit' | wc -l)))
+done
+
+if (cd "$room" && rt ci "$@" >"$room/log" 2>&1); then
+    echo "$edits passed, 0 failed"
+    exit 0
+fi
+grep -a 'must-fail\|no proof\|error' "$room/log" | tail -n 40
+echo "0 passed, $edits failed"
+exit 1
