@@ -65,6 +65,10 @@ impl Matroid for Flags {
         _kept: &(),
         x: u32,
     ) -> Result<Exchange, AllocError> {
+        self.circuit(alloc, base, x)
+    }
+
+    fn circuit(&self, alloc: Global, base: &ElemSet, x: u32) -> Result<Exchange, AllocError> {
         let met = if x == 0 {
             meets(&self.first, &self.second)
         } else {
