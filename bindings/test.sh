@@ -1,8 +1,8 @@
 #!/bin/sh
 # Tests what bindings/build.sh built, against the proved program or the PROGRAM that is named. It needs python3, and it says what it could not
-# run if one of these is missing: cc for the libraries for C; mypy for the types of the Python module; for the page chromium (apt-get install -y
-# --no-install-recommends chromium), or the browser of that kind that the variable CHROMIUM names, and firefox or firefox-esr (apt-get install -y
-# --no-install-recommends firefox-esr), or the one that the variable FIREFOX names.
+# run if one of these is missing: cc for the libraries for C; rt and objdump for build.sh; mypy for the types of the Python module; for the page
+# chromium (apt-get install -y --no-install-recommends chromium), or the browser of that kind that the variable CHROMIUM names, and firefox or
+# firefox-esr (apt-get install -y --no-install-recommends firefox-esr), or the one that the variable FIREFOX names.
 #
 #   bindings/test.sh [PROGRAM]
 #
@@ -84,6 +84,15 @@ try_browser() {
     fi
 }
 
+# Tries build.sh, and the libraries for C, with a compiler of the machine that hardens what it makes.
+try_hardened() {
+    what="build.sh and programs with a compiler that hardens"
+    for needed in rt cc objdump; do
+        command -v "$needed" >/dev/null || { cannot "$what" "there is no $needed"; return 0; }
+    done
+    try "$what" python3 "$bindings/tests/hardened_build.py"
+}
+
 # Tries the wheel and the archive for C, if bindings/pack.py made both.
 try_packages() {
     what="the wheel and the archive for C"
@@ -120,6 +129,7 @@ fi
 if is_built "the programs of docs/BINDINGS.md" libmatbench.a && is_built "the programs of docs/BINDINGS.md" libmatbench_line.a; then
     try "the programs of docs/BINDINGS.md" python3 "$bindings/tests/documents.py"
 fi
+try_hardened
 try_packages
 if command -v node >/dev/null; then try_javascript node; else cannot "the module for JavaScript in node" "there is no node"; fi
 [ -n "$chromium" ] || cannot "the page in Chromium" "there is no ${CHROMIUM:-chromium}"
