@@ -106,8 +106,9 @@ module _ (held : List ℕ → Option (List ℕ)) where
   job_texts [] [] [] are have = tt
   job_texts (job ∷ jobs) (one ∷ others) (text ∷ texts) are have =
       (job_text job one text.items are.0 have.0, job_texts jobs others texts are.1 have.1)
+  job_texts [] [] texts are have = absurd have
+  job_texts (job ∷ jobs) (one ∷ others) texts are have = absurd have
   job_texts jobs loaded texts are have = absurd are
-  job_texts jobs loaded texts are have = absurd have
 
   short_texts : (loaded : List LoadedJob) (texts : List (Vec ℕ)) → HaveTexts loaded texts
       → All (λ piece. length piece ≤ certificate_limit) (map (λ text. text.items) texts)
