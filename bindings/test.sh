@@ -121,6 +121,8 @@ fi
 if is_built "the Python module" libmatbench.so; then
     try "the Python module" python3 "$bindings/tests/python_module.py"
 fi
+try "the commands of the Python package" env MATBENCH_PROGRAM="$program" python3 "$bindings/tests/command_line.py"
+try "trusses and plans in Python" env MATBENCH_PROGRAM="$program" python3 "$bindings/tests/planning.py"
 if command -v mypy >/dev/null; then
     try "the types of the Python module" env MYPYPATH="$bindings" mypy --strict --cache-dir="$work/types" -p matbench
 else

@@ -88,6 +88,9 @@ run_python_module() {
 run_quick() {
     run_by python3 "what the documents show" python3 tests/shown.py "$program"
     run_by python3 "tables of spreadsheets" python3 tests/spreadsheets.py 40 1 "$program"
+    run_by python3 "trusses" python3 tests/trusses.py 40 1 "$program"
+    run_by python3 "plans" python3 tests/plans.py 10 1 "$program"
+    run_by python3 "further limits" python3 tests/limits.py 10 1 "$program"
     run_by python3 "random problems" python3 tests/soak.py --problems 40 1 "$program"
     run_python_module
     run_by mandoc "the man page" mandoc -Tlint -Wwarning docs/matbench.1
@@ -118,6 +121,9 @@ run_reports() {
 run_all() {
     run_by python3 "what the documents show" python3 tests/shown.py "$program"
     run_by python3 "tables of spreadsheets" python3 tests/spreadsheets.py 100 1 "$program"
+    run_by python3 "trusses" python3 tests/trusses.py 1000 1 "$program"
+    run_by python3 "plans" python3 tests/plans.py 200 1 "$program"
+    run_by python3 "further limits" python3 tests/limits.py 100 1 "$program"
     run_by mandoc "the man page" mandoc -Tlint docs/matbench.1
     run_shellcheck
     run "the launcher" env --default-signal=INT tests/launcher_test.sh

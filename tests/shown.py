@@ -21,7 +21,8 @@ documents
   documents, the links alone are followed.
 The text of --help is compared with the one that the launcher prints where nothing is built.
 Commands run in a new folder that has the program as `matbench` beside the folders of the
-repository, and which stands for /tmp too. What is wrong is printed; the last line is
+repository, and which stands for /tmp too; `python3 -m matbench` is the package of bindings/, which
+calls this program. What is wrong is printed; the last line is
 `N passed, M failed`, and counts commands, quotes, lines of files and links.
 """
 import glob
@@ -238,8 +239,11 @@ def main():
                  "./matbench --version puts it there")
     folder = tempfile.mkdtemp(prefix="shown")
     os.symlink(program, os.path.join(folder, "matbench"))
-    # The scripts of examples/many/ take this program then.
-    os.environ["MATBENCH"] = program
+    # The scripts of examples/many/ and the Python package take this program then.
+    os.environ["MATBENCH"] = os.environ["MATBENCH_PROGRAM"] = program
+    os.environ.pop("MATBENCH_LIBRARY", None)
+    os.environ["MATBENCH_QUIET"] = "yes"
+    os.environ["PYTHONPATH"] = os.path.join(TOP, "bindings")
     for name in ("bench", "crates", "docs", "examples"):
         os.symlink(os.path.join(TOP, name), os.path.join(folder, name))
     try:

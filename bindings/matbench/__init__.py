@@ -25,8 +25,11 @@ thread of its own until it ends, with its memory and a processor, and its answer
 the end of the process ends it before.
 
 The library is libmatbench.so in this folder, beside it or in out/ beside it, or the file that the
-environment variable MATBENCH_LIBRARY names. The first call loads it. __version__ is the version of
-the program in it.
+environment variable MATBENCH_LIBRARY names. The first call loads it. Where there is none, each call
+runs the program: the one that MATBENCH_PROGRAM names, or matbench on the search path. __version__
+is the version of the program.
+
+`python3 -m matbench --help` lists commands for planners.
 """
 from __future__ import annotations
 
@@ -72,6 +75,6 @@ else:
         if name != "__version__":
             raise AttributeError(f"module {__name__!r} has no attribute {name!r}")
         try:
-            return version().removeprefix("matbench ")
+            return version().split(" ")[-1]
         except NoLibrary as error:
             raise AttributeError(f"the library tells the version, and {error}") from error

@@ -4,7 +4,7 @@ from __future__ import annotations
 import re
 import time
 from collections.abc import Mapping, Sequence
-from typing import TypeAlias
+from typing import TYPE_CHECKING
 
 from matbench.answers import Answer
 from matbench.calls import ROOM, Ended, call, done
@@ -13,10 +13,13 @@ from matbench.commands import words_of
 from matbench.descriptions import Description, Problem
 from matbench.refusals import BadList, WriteFault
 
+if TYPE_CHECKING:
+    from typing import TypeAlias
+
 #: A list has at most so many jobs.
 MOST_JOBS = 32
 #: A job: the name of a command, its problem, and for trees and disjoint the count.
-Job: TypeAlias = tuple[str, Problem] | tuple[str, Problem, int]
+Job: TypeAlias = "tuple[str, Problem] | tuple[str, Problem, int]"
 
 
 def _hold_to_jobs(jobs: Sequence[Job]) -> None:

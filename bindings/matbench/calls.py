@@ -2,11 +2,12 @@
 from __future__ import annotations
 
 import ctypes
+import functools
 import mmap
 from collections.abc import Mapping, Sequence
 from dataclasses import dataclass
 
-from matbench import library
+from matbench import library, program
 from matbench.descriptions import Description
 from matbench.refusals import BY_STATUS, BadDescription, FaultyText, MatbenchError, OutOfMemory
 from matbench.waiting import interruptibly
@@ -48,12 +49,38 @@ def call(words: Sequence[str], files: Mapping[str, bytes], room: int = ROOM,
     """Does what the program does for these words, such as ["intersect", "f"], over these files by
     their names, and raises nothing for a refusal. The output has room in so many bytes; a longer
     one ends with the status 6 and is cut off. After `timeout` seconds it raises TimeoutError."""
-    texts = [word.encode() for word in words]
-    names = [name.encode() for name in files]
-    if any(b"\0" in text for text in [*texts, *names]):
+    if any("\0" in text for text in [*words, *files]):
         raise ValueError("a word or a name with a zero byte")
     if room < 0:
         raise ValueError(f"there is no room of {room} bytes")
+    path = _program()
+    if path:
+        return Ended(*program.run(path, words, files, room, timeout))
+    return _call_of_library(words, files, room, timeout)
+
+
+@functools.lru_cache(maxsize=None)
+def _program() -> str | None:
+    """The program, if calls are to be of it: it is named and the library is not, or there is no
+    library. Else None."""
+    if library.named():
+        return None
+    return program.named() or (None if library.found() else program.found())
+
+
+def call_at_once(words: Sequence[str], files: Mapping[str, bytes], room: int = ROOM) -> Ended:
+    """A call that is known to be short: Ctrl-C waits for its end, and no thread is started."""
+    path = _program()
+    if path:
+        return Ended(*program.run(path, words, files, room, None))
+    return _call_of_library(words, files, room, None, True)
+
+
+def _call_of_library(words: Sequence[str], files: Mapping[str, bytes], room: int,
+                     timeout: float | None, is_quick: bool = False) -> Ended:
+    """A call of the library's function, in this process. One that is quick starts no thread."""
+    texts = [word.encode() for word in words]
+    names = [name.encode() for name in files]
     function = library.load().matbench_call
     memory = _memory(room)
     start = ctypes.c_char.from_buffer(memory)
@@ -68,7 +95,7 @@ def call(words: Sequence[str], files: Mapping[str, bytes], room: int = ROOM,
         return int(function(listed, given, ctypes.c_size_t(len(files)), ctypes.byref(output),
                             ctypes.byref(noted)))
 
-    is_quick = timeout is None and _is_short(list(files.values()))
+    is_quick = is_quick or timeout is None and _is_short(list(files.values()))
     status = run() if is_quick else interruptibly(run, timeout)
     return Ended(status, memory[: output.length], note.raw[: noted.length].decode().rstrip("\n"))
 

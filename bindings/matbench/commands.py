@@ -2,7 +2,7 @@
 from __future__ import annotations
 
 from collections.abc import Callable
-from typing import TypeAlias, TypeVar, cast
+from typing import TYPE_CHECKING, TypeVar, cast
 
 from matbench.answers import (Answer, Arborescence, Covering, DisjointArborescences, Ladder,
                               Packing, PricedArborescence, Trees, Union, Verdict)
@@ -14,8 +14,11 @@ from matbench.problems import Matrix, is_matrix, table
 from matbench.refusals import NotRight
 from matbench.showing import shown
 
+if TYPE_CHECKING:
+    from typing import TypeAlias
+
 #: What a certificate is given as: an answer, its text, or a path to its file.
-Certificate: TypeAlias = Answer | Text
+Certificate: TypeAlias = "Answer | Text"
 _Read = TypeVar("_Read", bound=Answer)
 
 

@@ -5,9 +5,12 @@ import os
 import re
 from collections.abc import Hashable, Iterable, Sequence
 from dataclasses import dataclass
-from typing import Any, TypeAlias
+from typing import TYPE_CHECKING, Any
 
 from matbench.refusals import BadDescription, TooLong
+
+if TYPE_CHECKING:
+    from typing import TypeAlias
 
 #: A description has at most so many elements, vertices, colours, rows and columns.
 MOST = 500
@@ -16,7 +19,7 @@ MOST_MATROIDS = 64
 #: The bytes that a description or a list of jobs may have, and a certificate or a witness.
 MOST_OF_DESCRIPTION, MOST_OF_CERTIFICATE = 4_194_304, 67_108_864
 #: A text as a function takes it: itself, its bytes, or a path to its file.
-Text: TypeAlias = str | bytes | os.PathLike[str]
+Text: TypeAlias = "str | bytes | os.PathLike[str]"
 
 
 @dataclass(frozen=True)
@@ -46,7 +49,7 @@ class Description:
 
 
 #: What a description is given as: its text, a path to its file, or a Description.
-Problem: TypeAlias = Text | Description
+Problem: TypeAlias = "Text | Description"
 
 
 def _read(path: os.PathLike[str], most: int) -> bytes:

@@ -11,16 +11,19 @@ number.
 from __future__ import annotations
 
 from collections.abc import Hashable, Iterable, Mapping, Sequence
-from typing import Any, Protocol, TypeAlias
+from typing import TYPE_CHECKING, Any, Protocol
 
 from matbench.descriptions import MOST, Description, names_of, out_of_range
 from matbench.weights import spelling
 
+if TYPE_CHECKING:
+    from typing import TypeAlias
+
 #: The attribute that weighs an edge where none is named.
 WEIGHT = "weight"
 
-_Edges: TypeAlias = list[tuple[Any, ...]]
-_Data: TypeAlias = list[Mapping[str, Any]]
+_Edges: TypeAlias = "list[tuple[Any, ...]]"
+_Data: TypeAlias = "list[Mapping[str, Any]]"
 
 
 class Graph(Protocol):

@@ -34,24 +34,33 @@ def _places() -> list[Path]:
     return [folder / NAME for folder in (package, package.parent, package.parent / "out")]
 
 
+def named() -> Path | None:
+    """The library that the environment variable names, or None. Raises NoLibrary where there is no
+    such file."""
+    path = os.environ.get(VARIABLE)
+    if path and not os.path.exists(path):
+        raise NoLibrary(f"the environment variable {VARIABLE} names {path}, and there is no such"
+                        " file")
+    return Path(path) if path else None
+
+
+def found() -> Path | None:
+    """The library that is named, or stands where it may be, or None."""
+    return named() or next((place for place in _places() if place.exists()), None)
+
+
 def _find() -> Path:
-    named = os.environ.get(VARIABLE)
-    if named:
-        if not os.path.exists(named):
-            raise NoLibrary(f"the environment variable {VARIABLE} names {named}, and there is no"
-                            " such file")
-        return Path(named)
-    places = _places()
-    for place in places:
-        if place.exists():
-            return place
-    looked = ", ".join(str(place.parent) for place in places)
+    path = found()
+    if path:
+        return path
+    looked = ", ".join(str(place.parent) for place in _places())
     raise NoLibrary(f"there is no {NAME} in {looked}. The wheel of matbench has it inside;"
                     f" bindings/build.sh of a checkout builds it; {VARIABLE} names one that is"
-                    " elsewhere")
+                    " elsewhere. The program does as well: MATBENCH_PROGRAM names it, or it is"
+                    " the command matbench on the search path")
 
 
-@functools.cache
+@functools.lru_cache(maxsize=None)
 def load() -> ctypes.CDLL:
     """The library, which is loaded at the first call. Raises NoLibrary where it cannot be."""
     path = _find()

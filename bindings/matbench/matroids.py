@@ -8,16 +8,19 @@ there, is told when the description is made.
 from __future__ import annotations
 
 from collections.abc import Hashable, Iterable, Mapping, Sequence
-from typing import Any, TypeAlias, TypeVar
+from typing import TYPE_CHECKING, Any, TypeVar
 
 from matbench.descriptions import MOST, MOST_MATROIDS
 from matbench.writing import Writer
 
+if TYPE_CHECKING:
+    from typing import TypeAlias
+
 #: Elements with a cap: at most so many of them.
-Capped: TypeAlias = tuple[int, Iterable[Hashable]]
+Capped: TypeAlias = "tuple[int, Iterable[Hashable]]"
 _It = TypeVar("_It")
 #: Something for each element: by the element, or in the order of the elements.
-ForEach: TypeAlias = Mapping[Any, _It] | Iterable[_It]
+ForEach: TypeAlias = "Mapping[Any, _It] | Iterable[_It]"
 
 
 class Matroid:

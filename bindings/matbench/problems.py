@@ -8,7 +8,7 @@ from __future__ import annotations
 
 import dataclasses
 from collections.abc import Hashable, Iterable, Mapping, Sequence
-from typing import Any, Protocol, TypeAlias, TypeGuard
+from typing import TYPE_CHECKING, Any, Protocol
 
 from matbench.descriptions import MOST_MATROIDS, Description, out_of_range
 from matbench.graphs import (coloured_description, description_of_cells, graph_description,
@@ -17,8 +17,11 @@ from matbench.matroids import ForEach, Matroid, write_all
 from matbench.weights import Weight
 from matbench.writing import Writer
 
+if TYPE_CHECKING:
+    from typing import TypeAlias, TypeGuard
+
 #: The weights of elements, and so the elements.
-Weights: TypeAlias = ForEach[Weight | int]
+Weights: TypeAlias = "ForEach[Weight | int]"
 
 
 def _weighted(form: str, weights: Weights, matroids: Sequence[Matroid]) -> Description:

@@ -18,7 +18,7 @@ Metadata-Version: 2.1
 Name: matbench
 Version: {version}
 Summary: Weighted optimisation over matroids, with answers that are proved best
-Requires-Python: >=3.10
+Requires-Python: >=3.8
 Classifier: Operating System :: POSIX :: Linux
 Classifier: Programming Language :: Python :: 3
 Classifier: Typing :: Typed
@@ -42,8 +42,9 @@ def tag_of(library: Path) -> str:
 def _files(built: Built, tag: str) -> dict[str, bytes]:
     """The files of the wheel but its list of them, by their names and in their order."""
     package = BINDINGS / "matbench"
-    paths = [*sorted(package.glob("*.py")), package / "py.typed", built.folder / "libmatbench.so"]
-    files = {f"matbench/{path.name}": read(path) for path in paths}
+    modules = sorted(path.relative_to(package).as_posix() for path in package.rglob("*.py"))
+    files = {f"matbench/{name}": read(package / name) for name in [*modules, "py.typed"]}
+    files["matbench/libmatbench.so"] = read(built.folder / "libmatbench.so")
     described = METADATA.format(version=built.version).encode()
     info = f"matbench-{built.version}.dist-info"
     files[f"{info}/METADATA"] = described + read(BINDINGS / "packing" / "wheel.md")

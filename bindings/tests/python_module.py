@@ -42,7 +42,8 @@ class Library(unittest.TestCase):
         script = ("import matbench\n"
                   "try: matbench.version()\n"
                   "except OSError as error: print(type(error).__name__, error, sep=': ')\n")
-        settings = {key: it for key, it in os.environ.items() if key != "MATBENCH_LIBRARY"}
+        settings = {key: it for key, it in os.environ.items() if not key.startswith("MATBENCH_")}
+        settings["PATH"] = "/usr/bin:/bin"
         if library:
             settings["MATBENCH_LIBRARY"] = str(library)
         done = subprocess.run([sys.executable, "-c", script], cwd=folder, env=settings,

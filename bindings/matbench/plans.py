@@ -1,0 +1,152 @@
+"""Best plans with elements that must be in, or must not, and python3 -m matbench plan."""
+from __future__ import annotations
+
+from dataclasses import dataclass
+from pathlib import Path
+from typing import TYPE_CHECKING, Any
+
+from matbench.command_lines import DONE, NOT_SO, parser_of, write
+from matbench.faults import InputFault
+from matbench.tables import FORMS, Table, json_of
+from matbench.variants import Base, best_rung, certificate_of, packed, rungs_of
+from matbench.weights import pair_of
+
+if TYPE_CHECKING:
+    import argparse
+    from collections.abc import Collection, Iterable, Mapping, Sequence
+
+    from matbench.descriptions import Problem
+    from matbench.variants import Plan, Rung
+    from matbench.weights import Weight
+
+ABOUT = """\
+The best plan of a description: for each number of elements the best one is known, and the best of
+all is printed, or that of --size. With --must an element is in the plan, with --must-not it is not.
+
+FILE is a description of the form `pair`, or `list` with one matroid. An element is called by its
+name, or by its number if it has none; X.must, X.may and X.more are copies of the wish X."""
+EXAMPLES = """\
+examples:
+  python3 -m matbench plan wishes.txt
+  python3 -m matbench plan wishes.txt --must Cleo.Sunday_night --must-not Ben.Sunday_day --size 4
+
+The status is 0, or 1 where there is no such plan, or 2 where what was given is not taken."""
+
+
+class NoPlan(ValueError):
+    """There is no plan of this size, or none with all elements that must be in it. The answer that
+    shows it is `certificate`, for the description `text`."""
+
+    def __init__(self, sentence: str, text: str = "", certificate: str = ""):
+        super().__init__(sentence)
+        self.text, self.certificate = text, certificate
+
+
+@dataclass(frozen=True)
+class Wanted:
+    """A problem, elements that must be in a plan, elements that must not, and a size or None for
+    the best of all."""
+
+    base: Base
+    must: frozenset[int]
+    must_not: frozenset[int]
+    size: int | None
+
+    @classmethod
+    def of(cls, problem: Problem, must: Iterable[str] = (), must_not: Iterable[str] = (),
+           size: int | None = None) -> Wanted:
+        """What is wanted of a description. Raises InputFault for names that it has not."""
+        base = Base.of(problem)
+        needed, barred = base.elements(must), base.elements(must_not)
+        for it in needed & barred:
+            raise InputFault(f"{base.names[it]} must be in the plan, and must not")
+        return cls(base, needed, barred, size)
+
+    def aims(self) -> tuple[list[int], list[int]]:
+        """The gain of each element, and its tie."""
+        pairs = [pair_of(it) for it in self.base.weights]
+        return [gain for gain, _ in pairs], [tie for _, tie in pairs]
+
+    def weights(self, *aims: Sequence[int]) -> list[Weight | int]:
+        """The weights for these aims, before which go the elements that must be in."""
+        needed = [int(it in self.must) for it in range(len(self.base.names))]
+        return packed(needed, *aims)
+
+    def solved(self, weights: Sequence[Weight | int], without: Collection[int] = (),
+               caps: Mapping[int, int] | None = None) -> Rung:
+        """The best rung of the size. Raises NoPlan."""
+        text = self.base.text(weights, self.must_not | frozenset(without), caps)
+        return self.read(text, certificate_of(self.base.command, text))
+
+    def read(self, text: str, certificate: str) -> Rung:
+        """The best rung of an answer. Raises NoPlan."""
+        rungs = rungs_of(certificate)
+        rung = best_rung(rungs, self.size)
+        if rung is None:
+            raise NoPlan(f"no plan has {self.size} elements: the largest has {len(rungs) - 1}",
+                         text, certificate)
+        held = rung.members & self.must
+        if len(held) > len(self.base.wishes(held)):
+            raise InputFault("the description allows two copies of one wish in one plan: name the"
+                             " copy that must be in it")
+        missing = self.base.wishes(self.must) - self.base.wishes(held)
+        if missing:
+            whole = "" if self.size is None else f" of {self.size} elements"
+            raise NoPlan(f"no plan{whole} has all that must be in it: one that has most of them"
+                         f" lacks {', '.join(sorted(missing))}", text, certificate)
+        return rung
+
+
+def best_plan(problem: Problem, must: Iterable[str] = (), must_not: Iterable[str] = (),
+              size: int | None = None) -> Plan:
+    """The best plan that has all of `must` and none of `must_not`, of a size or of all sizes, by
+    one call. Raises NoPlan if there is none."""
+    wanted = Wanted.of(problem, must, must_not, size)
+    return wanted.base.plan(wanted.solved(wanted.weights(*wanted.aims())).members)
+
+
+def add_words(parser: argparse.ArgumentParser) -> None:
+    """Adds the words that the commands about plans share."""
+    parser.add_argument("file", metavar="FILE", help="the description")
+    parser.add_argument("--must", action="append", default=[], metavar="NAME",
+                        help="an element that must be in the plan; once for each")
+    parser.add_argument("--must-not", action="append", default=[], metavar="NAME",
+                        help="an element that must not; once for each")
+    parser.add_argument("--size", type=int, metavar="K",
+                        help="plans of K elements, in place of the best size")
+    parser.add_argument("--format", choices=FORMS, default="table", help="how it is printed")
+
+
+def wanted_of(given: argparse.Namespace) -> Wanted:
+    """What the words want. The form of the description is judged before its matroids."""
+    return Wanted.of(Path(given.file), given.must, given.must_not, given.size)
+
+
+def no_plan(error: NoPlan) -> int:
+    """Tells that there is no plan, and answers the status."""
+    write(f"NONE: {error}.\n")
+    return NOT_SO
+
+
+def record_of(plan: Plan) -> dict[str, Any]:
+    """A plan as plain data, its weight as the program spells it."""
+    return {"size": plan.size, "weight": str(plan.weight), "elements": list(plan.members)}
+
+
+def main(words: Sequence[str]) -> int:
+    """Runs the command."""
+    parser = parser_of("plan", ABOUT, EXAMPLES)
+    add_words(parser)
+    given = parser.parse_args(list(words))
+    wanted = wanted_of(given)
+    try:
+        plan = wanted.base.plan(wanted.solved(wanted.weights(*wanted.aims())).members)
+    except NoPlan as error:
+        return no_plan(error)
+    weights = dict(zip(wanted.base.names, map(str, wanted.base.weights)))
+    table = Table(("element", "weight"), [(name, weights[name]) for name in plan.members])
+    if given.format == "table":
+        write(f"BEST: {plan.size} elements, weight {plan.weight}.\n\n{table.text()}")
+    else:
+        write(json_of(record_of(plan)) if given.format == "json" else table.csv())
+    return DONE

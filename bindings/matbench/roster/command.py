@@ -1,0 +1,155 @@
+"""python3 -m matbench roster: a roster from two spreadsheets."""
+from __future__ import annotations
+
+from pathlib import Path
+from typing import TYPE_CHECKING
+
+from matbench.command_lines import DONE, parser_of, write
+from matbench.faults import InputFault
+from matbench.limits.proofs import write_proof
+from matbench.limits.solving import SECONDS
+from matbench.progress import Progress
+from matbench.roster.picture import picture
+from matbench.roster.reading import read_request, with_last
+from matbench.roster.showing import json_text, told, wishes_table, words
+from matbench.roster.solving import solve, what_if
+from matbench.roster.writing import write_request
+from matbench.tables import Table
+
+if TYPE_CHECKING:
+    import argparse
+    from collections.abc import Sequence
+
+    from matbench.roster.model import Request
+    from matbench.roster.solving import Change, Roster
+    from matbench.roster.writing import Written
+
+ABOUT = """\
+Makes the best roster from two tables, and proves that none is better.
+
+WISHES has a line for each wish, with the columns
+  person, shift   who, and which shift
+  gain            what the wish gains: a number, with a decimal comma or point
+and it may have the columns
+  day             the day of the shift; nobody works twice on a day, unless a limit says otherwise
+  week            the week of the shift
+  kind            a word for limits within shifts and of people, as night or senior
+  must            yes: the wish has to be granted, if any roster can
+  never           yes: the wish must not be granted
+  last            yes: the wish was granted last time; of equal gains the fewest changes win
+
+LIMITS has a line for each shift and each person, with the columns
+  name            a person or a shift ('early' for each shift of this name, or 'Mon early' for one)
+  most            how many at most: people in the shift, or shifts of the person
+and it may have the columns
+  least           how many a shift needs, if it can have them
+  week, day       how often the person works at most in each week and on each day
+  kind            the line is for wishes of this kind alone: at most, or at least, so many seniors
+                  in a shift; at most so many nights of a person
+
+More than 500 elements (a wish of a shift with a least number is two) need the column week; then,
+and where limits cross (nights of a person over weeks), the roster is the best that is found within
+--seconds, and it is said whether it is proved best, or how far a better one may be above it.
+
+Tables are read as spreadsheets save them (CSV in UTF-8, UTF-16 or Western Windows; commas,
+semicolons or tabs; sep=; in front). Names may be in any script. Yes is x, yes, ja, oui, si, 1 and
+the like.
+"""
+EXAMPLES = """\
+examples:
+  python3 -m matbench roster examples/wishes.csv examples/limits.csv
+  python3 -m matbench roster wishes.csv limits.csv --one-more --picture roster.svg
+  python3 -m matbench roster wishes.csv limits.csv --format csv --output roster.csv
+  python3 -m matbench roster new_wishes.csv limits.csv --last roster.csv
+  python3 -m matbench roster wishes.csv limits.csv --proof FOLDER
+"""
+
+
+def _parser() -> argparse.ArgumentParser:
+    """The words of the command."""
+    parser = parser_of("roster", ABOUT, EXAMPLES)
+    parser.add_argument("wishes", metavar="WISHES")
+    parser.add_argument("limits", metavar="LIMITS")
+    parser.add_argument("--size", type=int, metavar="K", help="grant exactly K wishes")
+    parser.add_argument("--seconds", type=float, default=SECONDS, metavar="T", help="search for some"
+                        f" T seconds at most, where a search is needed ({SECONDS:.0f})")
+    parser.add_argument("--last", metavar="ROSTER",
+                        help="a roster of last time, as --format csv writes it")
+    parser.add_argument("--one-more", action="store_true",
+                        help="tell too what one more place in each limit brings")
+    parser.add_argument("--tell", action="store_true",
+                        help="tell too why no roster is better, in words that can be counted after")
+    parser.add_argument("--format", choices=["table", "csv", "json"], default="table",
+                        help="a table for people (the default), CSV with a line for each wish, or"
+                             " JSON")
+    parser.add_argument("--output", metavar="FILE", help="write to FILE")
+    parser.add_argument("--picture", metavar="FILE", help="draw the roster too, as an SVG")
+    parser.add_argument("--proof", metavar="FOLDER",
+                        help="write the description and the certificate too, which `matbench check`"
+                             " judges")
+    parser.add_argument("--description", action="store_true",
+                        help="write the description for the program, and do not solve it")
+    return parser
+
+
+def _description(written: Written) -> str:
+    """The description of a request that is one."""
+    if len(written.texts) > 1 or written.further:
+        raise InputFault("this request is no single description: --proof writes what it is made of")
+    return written.texts[0]
+
+
+def _write_proof(folder: str, roster: Roster) -> None:
+    """Writes the descriptions and the certificate, or the further limits and their proof."""
+    try:
+        Path(folder).mkdir(parents=True, exist_ok=True)
+    except OSError as error:
+        raise InputFault(f"{folder} cannot be made: {error.strerror}") from error
+    for number, text in enumerate(roster.written.texts):
+        write(text, f"{folder}/roster{number}.txt")
+    for answer in roster.answers:
+        write(answer.certificate, f"{folder}/roster0.answer")
+    if roster.outcome is not None:
+        write(further_table(roster).csv(), f"{folder}/limits.csv")
+        write_proof(roster.outcome, folder)
+
+
+def further_table(roster: Roster) -> Table:
+    """The further limits of a roster, as `python3 -m matbench limits` takes them."""
+    elements = roster.written.elements
+    rows = [[it.name, it.most, elements[each].name, 1]
+            for it in roster.written.further for each in sorted(it.members)]
+    return Table(["limit", "most", "element", "amount"], rows)
+
+
+def _text(roster: Roster, changes: list[Change] | None, options: argparse.Namespace) -> str:
+    """What is printed."""
+    if options.format == "csv":
+        return wishes_table(roster).csv()
+    if options.format == "json":
+        return json_text(roster, changes)
+    return words(roster, changes) + ("\n" + told(roster) if options.tell else "")
+
+
+def _request(options: argparse.Namespace) -> Request:
+    """What the two tables ask for."""
+    request = read_request(options.wishes, options.limits)
+    return with_last(request, options.last) if options.last else request
+
+
+def main(given: Sequence[str]) -> int:
+    """Runs the command, and answers its exit status."""
+    options = _parser().parse_args(given)
+    request = _request(options)
+    if options.description:
+        write(_description(write_request(request)), options.output)
+        return DONE
+    with Progress("roster") as progress:
+        roster = solve(request, options.size, progress, options.seconds)
+        changes = what_if(roster, progress) if options.one_more else None
+    write(_text(roster, changes, options), options.output)
+    if options.picture:
+        write(picture(roster), options.picture)
+    if options.proof:
+        _write_proof(options.proof, roster)
+    return DONE

@@ -1,0 +1,150 @@
+"""A roster in words and tables, as CSV and as JSON, in the names of its tables."""
+from __future__ import annotations
+
+import re
+from fractions import Fraction
+from typing import TYPE_CHECKING, Any
+
+from matbench.roster.writing import MORE
+from matbench.tables import Table, json_of
+from matbench.weights import pair_of
+
+if TYPE_CHECKING:
+    from matbench.roster.model import Wish
+    from matbench.roster.solving import Change, Roster
+
+
+def number_of(value: Fraction) -> int | float:
+    """A number as JSON has it."""
+    return int(value) if value.denominator == 1 else float(value)
+
+
+def spelled(value: Fraction) -> str:
+    """A number with a point for its decimals."""
+    return str(number_of(value))
+
+
+def _head(roster: Roster) -> list[str]:
+    """What the roster is worth, and whether it is best."""
+    of = f"{len(roster.granted)} of {len(roster.request.wishes)} wishes are granted"
+    lines = [f"Roster: {of}, gain {spelled(roster.gain)}."]
+    if roster.request.has_demands:
+        lines.append("What is needed is met." if not roster.unmet else
+                     "Not all that is needed can be met: " + "; ".join(roster.unmet) + ".")
+    if roster.changes is not None:
+        lines.append(f"Changes against the last roster: {roster.changes}.")
+    if roster.outcome is not None and not roster.is_best:
+        lines.append(_told_gap(roster))
+    if roster.is_best:
+        what = "no roster" if roster.size is None else f"no roster of {roster.size} wishes"
+        more = "meets more of what is needed, or as much for a greater gain" \
+            if roster.request.has_demands else "gains more"
+        lines.append(f"This is proved best: {what} within the limits {more}.")
+    return lines
+
+
+def _told_gap(roster: Roster) -> str:
+    """What is known of a roster that is not proved best."""
+    outcome, request = roster.outcome, roster.request
+    if outcome is None or outcome.gap is None:
+        return "It is not known whether a better roster exists."
+    met, behind = pair_of(outcome.gap)
+    if not request.has_demands:
+        return (f"No roster gains more than {spelled(Fraction(met, roster.written.scale))} above"
+                " this: a better one may exist, or not.")
+    gain = Fraction(behind, roster.written.scale * roster.written.keeping)
+    return (f"No roster is above this by more than {met} of what is needed and a gain of"
+            f" {spelled(gain)}: a better one may exist, or not.")
+
+
+def people_table(roster: Roster) -> Table:
+    """A line for each person: how often they work, of how many at most, and when."""
+    rows = []
+    for person, limit in roster.request.people.items():
+        own = [it for it in roster.wishes if it.person == person]
+        rows.append([person, len(own), limit.most,
+                     number_of(sum((it.gain for it in own), Fraction(0))),
+                     ", ".join(it.shift.title for it in own)])
+    return Table(["person", "shifts", "most", "gain", "granted"], rows)
+
+
+def shifts_table(roster: Roster) -> Table:
+    """A line for each shift: how many work, of how many at most, how many are needed, and who."""
+    rows = []
+    for shift, limit in roster.request.shifts.items():
+        there = [it.person for it in roster.wishes if it.shift == shift]
+        rows.append([shift.title, len(there), limit.most, limit.demanded or None,
+                     ", ".join(there)])
+    return Table(["shift", "people", "most", "least", "who"], rows)
+
+
+def changes_table(changes: list[Change]) -> Table:
+    """A line for each limit in which one more place brings something."""
+    needs = any(it.met for it in changes)
+    heads = ["one more place in", "most now", *(["needs met"] if needs else []), "gain"]
+    rows = [[it.what, it.most, *([it.met] if needs else []), number_of(it.gain)] for it in changes]
+    return Table(heads, rows)
+
+
+def words(roster: Roster, changes: list[Change] | None = None) -> str:
+    """The roster as text: what it is worth, and tables of people and of shifts."""
+    parts = ["\n".join(_head(roster)) + "\n", people_table(roster).text(),
+             shifts_table(roster).text()]
+    if changes is not None:
+        parts.append(changes_table(changes).text() if changes else
+                     "One more place in any single limit brings nothing.\n")
+    if roster.request.notes:
+        parts.append("".join(f"Note: {it}\n" for it in roster.request.notes))
+    return "\n".join(parts)
+
+
+def _record(roster: Roster, place: int, wish: Wish) -> dict[str, Any]:
+    """A wish by columns, those of the tables."""
+    shift = wish.shift
+    found: dict[str, Any] = {"person": wish.person}
+    found.update({name: value for name, value in (("week", shift.week), ("day", shift.day))
+                  if value})
+    return {**found, "shift": shift.name, "gain": number_of(wish.gain),
+            "granted": place in roster.granted}
+
+
+def wishes_table(roster: Roster) -> Table:
+    """A line for each wish, with whether it is granted."""
+    records = [_record(roster, *it) for it in enumerate(roster.request.wishes)]
+    heads = list(records[0]) if records else ["person", "shift", "gain", "granted"]
+    return Table(heads, [[it[head] for head in heads] for it in records])
+
+
+def json_text(roster: Roster, changes: list[Change] | None = None) -> str:
+    """The roster as JSON."""
+    found: dict[str, Any] = {
+        "granted": len(roster.granted), "gain": number_of(roster.gain),
+        "best": roster.is_best, "unmet": roster.unmet, "changes": roster.changes,
+        "wishes": wishes_table(roster).records(), "people": people_table(roster).records(),
+        "shifts": shifts_table(roster).records(), "notes": list(roster.request.notes)}
+    if changes is not None:
+        found["one more place"] = changes_table(changes).records()
+    return json_of(found)
+
+
+def told(roster: Roster) -> str:
+    """The answers in the words of `--tell`, with the reason why none is better, in the names of the
+    tables."""
+    real = {}
+    for it in roster.written.elements:
+        wish = roster.request.wishes[it.wish]
+        beyond = ", beyond the least" if it.name.endswith(MORE) else ""
+        real[it.name] = f"[{wish.person}, {wish.shift.title}{beyond}]"
+    if not roster.answers:
+        return ("The proof is a sum over charged descriptions: --proof FOLDER writes it, with the"
+                " reason in bound.md.\n")
+    text = "\n".join(answer.told() for answer in roster.answers)
+    return re.sub(r"[!-~]+", lambda it: _real_word(it[0], real), text)
+
+
+def _real_word(word: str, real: dict[str, str]) -> str:
+    """A word of a text, with the real name for an element, also where a sign stands behind it."""
+    if word in real:
+        return real[word]
+    bare = word.rstrip(".,;:)")
+    return real[bare] + word[len(bare):] if bare in real else word

@@ -1,0 +1,230 @@
+"""Tests of the commands `truss`, `plan`, `second-best`, `one-more` and `few-changes`: what they
+print in each form, how they end, and what they refuse. That their answers are right,
+tests/trusses.py and tests/plans.py test.
+
+The program is the one that the environment variable MATBENCH_PROGRAM names, or else
+crates/mat_main/out/mat_main.
+"""
+import contextlib
+import csv
+import io
+import json
+import os
+import pathlib
+import sys
+import tempfile
+import unittest
+
+HERE = pathlib.Path(__file__).resolve().parent
+TOP = HERE.parent.parent
+EXAMPLES = TOP / "examples"
+if "MATBENCH_LIBRARY" not in os.environ:
+    os.environ.setdefault("MATBENCH_PROGRAM", str(TOP / "crates/mat_main/out/mat_main"))
+sys.path.insert(0, str(HERE.parent))
+
+import matbench  # noqa: E402
+from matbench import __main__ as commands  # noqa: E402
+from matbench import few_changes, one_more, plans, second_best, truss  # noqa: E402
+from matbench.faults import InputFault  # noqa: E402
+
+SQUARE = "bar,from,to\na,P,Q\nb,Q,R\nc,R,S\nd,S,P\n"
+WISHES = """matroids 2
+pair 4
+elements Ada.Mon Ben.Mon Ben.Tue Ben.Tue.more
+weights 5 4 3 3
+partition 3
+class 1 Ada.Mon Ben.Mon
+class 1 Ben.Tue
+class 1 Ben.Tue.more
+laminar 3
+set 1 Ada.Mon
+set 1 Ben.Mon Ben.Tue Ben.Tue.more
+set 1 Ben.Tue Ben.Tue.more
+end
+"""
+
+
+class Graph:
+    """A graph as networkx has one."""
+
+    def edges(self, data):
+        """Its edges with their data."""
+        return [(1, 2, {"bar": "tie"}), (2, 3, {})] if data else [(1, 2), (2, 3)]
+
+
+def ran(*words):
+    """The status, the output and the notes of a command, in this process."""
+    output, notes = io.BytesIO(), io.StringIO()
+    with contextlib.redirect_stdout(io.TextIOWrapper(output, "utf-8", write_through=True)), \
+            contextlib.redirect_stderr(notes):
+        try:
+            status = commands.main([str(word) for word in words])
+        except SystemExit as end:
+            status = end.code
+        sys.stdout.flush()
+        text = output.getvalue().decode()
+    return status, text, notes.getvalue()
+
+
+class InFolder(unittest.TestCase):
+    """A test that has a folder of its own."""
+
+    def setUp(self):
+        folder = tempfile.TemporaryDirectory()
+        self.addCleanup(folder.cleanup)
+        self.folder = pathlib.Path(folder.name)
+
+    def file(self, name, content):
+        """A file in the folder."""
+        path = self.folder / name
+        path.write_bytes(content if isinstance(content, bytes) else content.encode())
+        return path
+
+
+class Trusses(InFolder):
+    """The command truss."""
+
+    def test_a_square_lacks_a_bar_and_a_braced_one_does_not(self):
+        status, text, _ = ran("truss", self.file("loose.csv", SQUARE))
+        self.assertEqual(status, 1)
+        self.assertIn("NOT RIGID: 1 bar is missing.", text)
+        status, text, _ = ran("truss", self.file("braced.csv", SQUARE + "e,P,R\nf,Q,S\n"))
+        self.assertEqual(status, 0)
+        self.assertIn("RIGID, in general position. 1 bar is redundant.", text)
+        self.assertEqual(text.count("may fail"), 7)  # each bar of K4, and the line above the group
+
+    def test_csv_and_json_say_what_the_table_says(self):
+        path = self.file("braced.csv", SQUARE + "e,P,R\nf,R,T\n")
+        rows = list(csv.DictReader(io.StringIO(ran("truss", path, "--format", "csv")[1])))
+        found = json.loads(ran("truss", path, "--format", "json")[1])
+        self.assertEqual([row["if it fails"] for row in rows], ["critical"] * 6)
+        self.assertEqual((found["rigid"], found["needed"], found["independent"], found["missing"]),
+                         (False, 7, 6, 1))
+        self.assertEqual([sorted(part) for part in found["parts"]],
+                         [["P", "Q", "R", "S"], ["R", "T"]])
+        self.assertEqual([row["name"] for row in found["members"]], [row["name"] for row in rows])
+
+    def test_names_in_any_script_and_semicolons_are_taken(self):
+        path = self.file("träger.csv", "\ufeffbar;from;to\r\nStütze 1;Ä;橋\r\nб;橋;c\r\nx;c;Ä\r\n")
+        status, text, _ = ran("truss", path, "--proof", self.folder / "proof")
+        self.assertEqual(status, 0)
+        self.assertIn("Stütze 1", text)
+        status, text, _ = ran("truss", "--verify", self.folder / "proof")
+        self.assertEqual((status, text.split(",")[0]), (0, "RIGHT: 3 independent bars"))
+
+    def test_an_altered_proof_is_not_right(self):
+        ran("truss", self.file("braced.csv", SQUARE + "e,P,R\n"), "--proof", self.folder / "proof")
+        bars = self.folder / "proof" / "bars.csv"
+        bars.write_text(bars.read_text().replace("e,e,bar,P,R", "e,e,bar,P,Q"))
+        status, text, _ = ran("truss", "--verify", self.folder / "proof")
+        self.assertEqual((status, text[:9]), (1, "NOT RIGHT"))
+
+    def test_hinges_count_two_in_the_plane_and_five_in_space(self):
+        parts = "part,kind,from,to\nh1,hinge,A,B\nh2,Hinge,B,C\nh3,hinge,C,A\n"
+        for words, independent, status in (([], 6, 0), (["--space"], 12, 0)):
+            given = ran("truss", self.file("parts.csv", parts), "--format", "json", *words)
+            self.assertEqual((given[0], json.loads(given[1])["independent"]), (status, independent))
+
+    def test_what_is_not_taken_is_told(self):
+        cases = [("bar,from\na,P\n", [], "the first line has the columns bar, from, to"),
+                 ("bar,from,to\na,P,\n", [], "there is no to"),
+                 ("bar,from,to\na,P,P\n", [], "a: both ends are P"),
+                 (SQUARE + "a,P,R\n", [], "a: this name stands twice"),
+                 (SQUARE, ["--pin", "X"], "X: no bar ends at this joint"),
+                 (SQUARE, ["--pin", "P", "--roller", "P"], "a pin or a roller, and not both"),
+                 (SQUARE, ["--space"], "joints are of the plane alone"),
+                 ("part,kind,from,to\na,rope,A,B\n", [], "is bar or hinge, and not 'rope'"),
+                 ("part,kind,from,to\na,bar,A,B\n", ["--pin", "A"], "are for trusses"),
+                 ("", [], "nothing in it"), (b"\x00\xff\x00", [], ""),
+                 ("bar,from,to\n" + "".join(f"b{it},J{it},J{it + 1}\n" for it in range(251)), [],
+                  "251 independent bars are more than the 250 that a proof can have: --no-proof")]
+        for table, words, told in cases:
+            with self.subTest(told=told):
+                status, text, notes = ran("truss", self.file("t.csv", table), *words)
+                self.assertEqual((status, text), (2, ""))
+                self.assertIn(told, notes)
+                self.assertNotIn("Traceback", notes)
+        self.assertEqual(ran("truss", self.folder / "nowhere.csv")[0], 2)
+        self.assertEqual(ran("truss", "--verify", self.folder)[0], 2)
+
+    def test_the_package_has_it_too(self):
+        bars = [("a", "P", "Q"), ("b", "Q", "R"), ("c", "R", "P")]
+        found = truss.analysis(truss.plane_truss(bars, pins=["P"]))
+        self.assertEqual((found.is_rigid, found.missing, found.surplus), (False, 1, 0))
+        shown = truss.judged(truss.proved(found))
+        self.assertEqual((shown.critical, shown.spare), (found.critical, ()))
+        self.assertEqual(truss.bars_of_graph(Graph()), [("tie", "1", "2"), ("1", "2", "3")])
+        with self.assertRaises(truss.NotProved):
+            other = truss.Proof(found.structure, ((0, 1, 2),), ("certificate 1\n",), {-1: [[0]]})
+            truss.judged(other)
+
+
+class Plans(InFolder):
+    """The commands plan, second-best, one-more and few-changes."""
+
+    def setUp(self):
+        super().setUp()
+        self.wishes = self.file("wishes.txt", WISHES)
+
+    def test_a_wish_that_must_be_granted(self):
+        self.assertEqual(plans.best_plan(WISHES).members, ("Ada.Mon", "Ben.Tue"))
+        found = plans.best_plan(WISHES, must=["Ben.Mon"])
+        self.assertEqual((found.size, found.weight, found.members), (1, 4, ("Ben.Mon",)))
+        found = plans.best_plan(WISHES, must_not=["Ben.Tue"])
+        self.assertEqual(found.members, ("Ada.Mon",))
+        status, text, _ = ran("plan", self.wishes, "--must", "Ada.Mon", "--must", "Ben.Mon")
+        self.assertEqual((status, text[:5]), (1, "NONE:"))
+        self.assertEqual(ran("plan", self.wishes, "--size", "3")[0], 1)
+
+    def test_no_plan_has_its_certificate(self):
+        with self.assertRaises(plans.NoPlan) as caught:
+            plans.best_plan(WISHES, must=["Ada.Mon", "Ben.Mon"])
+        self.assertTrue(matbench.check(caught.exception.text, caught.exception.certificate))
+
+    def test_the_second_plan_grants_other_wishes(self):
+        found = second_best.second_best(WISHES)
+        self.assertEqual((found.best.weight, found.second), (8, None))
+        found = second_best.second_best(WISHES, is_any_size=True)
+        self.assertEqual((found.second.weight, found.second.members), (5, ("Ada.Mon",)))
+        status, text, _ = ran("second-best", self.wishes, "--size", "1", "--format", "json")
+        self.assertEqual((status, json.loads(text)["second"]["elements"]), (0, ["Ben.Mon"]))
+        self.assertEqual(ran("second-best", self.wishes)[0], 1)
+
+    def test_one_more_place(self):
+        best, gains = one_more.one_more(WISHES)
+        self.assertEqual(best.weight, 8)
+        self.assertEqual([(it.limit, it.used, it.gain) for it in gains if it.rule == 1][0],
+                         ("Mon", 1, 1))
+        self.assertEqual([(it.limit, it.gain) for it in gains if it.rule == 2],
+                         [("Ada", 0), ("Ben", 0), ("Ben.Tue", 0)])
+        rows = json.loads(ran("one-more", self.wishes, "--format", "json")[1])["limits"]
+        self.assertEqual(len(rows), len(gains))
+
+    def test_few_changes(self):
+        choices = few_changes.few_changes(WISHES, ["Ben.Mon"])
+        self.assertEqual([(it.changes, it.plan.weight) for it in choices], [(3, 8), (0, 4)])
+        self.assertEqual(choices[0].dropped, ("Ben.Mon",))
+        self.assertEqual(choices[0].new, ("Ada.Mon", "Ben.Tue"))
+        last = self.file("last.txt", "1 for 4:\nBen.Mon\nGone.Sun\n")
+        status, text, _ = ran("few-changes", self.wishes, last)
+        self.assertEqual((status, text.splitlines()[0]), (0, "Not in the description: Gone.Sun."))
+
+    def test_what_is_not_taken_is_told(self):
+        cases = [(["plan", EXAMPLES / "towns.txt"], "the form is `rooted"),
+                 (["plan", self.folder / "nowhere.txt"], "No such file"),
+                 (["plan", self.file("bad.txt", "matroids 3\n")], "Version line 1"),
+                 (["plan", self.wishes, "--must", "Eve"], "Eve: there is no such element"),
+                 (["plan", self.wishes, "--must", "Ada.Mon", "--must-not", "Ada.Mon"], "must not"),
+                 (["second-best", self.wishes, "--size", "1", "--any-size"], "do not go together"),
+                 (["few-changes", self.wishes, self.file("l.txt", b"\xff")], "no text in UTF-8")]
+        for words, told in cases:
+            with self.subTest(told=told):
+                status, text, notes = ran(*words)
+                self.assertEqual((status, text), (2, ""))
+                self.assertIn(told, notes)
+        with self.assertRaises(InputFault):
+            plans.best_plan(WISHES.replace("5 4 3 3", "5:3 4 3 900000000000:7"), must=["Ada.Mon"])
+
+
+if __name__ == "__main__":
+    unittest.main()
