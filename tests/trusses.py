@@ -5,10 +5,11 @@ Draws plane trusses, with pins and rollers too, and for each fifth one bodies wi
 in the plane and in space. What the package says of each is compared with the ranks of rigidity
 matrices at random coordinates over the field of the prime 2^31 - 1: how many bars are independent,
 which may fail, and which joints or bodies keep their distance. Each is proved, and the proof is
-judged. Then proofs in folders are altered, one number or line at a time: each has to be refused, or
-to show the same, or less of its members. What is wrong is printed. The last line is `N passed,
-M failed`, and the status is 1 if something failed. TRUSSES is 1000 and SEED 1 if they are not
-given; the program is that of the package if none is named.
+judged; one that takes dependent bars for independent has to be refused. Then proofs in folders are
+altered, one number or line at a time: each has to be refused, or to show the same, or less of its
+members. What is wrong is printed. The last line is `N passed, M failed`, and the status is 1 if
+something failed. TRUSSES is 1000 and SEED 1 if they are not given; the program is that of the
+package if none is named.
 """
 import os
 import pathlib
@@ -22,8 +23,10 @@ sys.path.insert(0, str(TOP / "bindings"))
 if len(sys.argv) > 3:
     os.environ["MATBENCH_PROGRAM"] = os.path.abspath(sys.argv[3])
 
+import matbench  # noqa: E402
 from matbench import truss  # noqa: E402
 from matbench.faults import InputFault  # noqa: E402
+from matbench.truss import proofs  # noqa: E402
 
 PRIME = 2 ** 31 - 1
 #: How many proofs are altered, and in how many places each.
@@ -167,6 +170,22 @@ def other_proof(found, is_rank_alone):
         yield f"{shown.critical} and {shown.spare} are proved"
 
 
+def forged_proofs(found):
+    """What is wrong with proofs that all bars are independent where they are not: by the right
+    answer that says so, and by the certificate of fewer bars."""
+    structure, bars = found.structure, tuple(range(len(found.structure.bars)))
+    if not found.surplus:
+        return
+    never = matbench.cover(proofs.description(structure, bars)).certificate
+    fewer = proofs.certificate(structure, found.count.basis)
+    for text in (never, fewer):
+        try:
+            truss.judged(truss.Proof(structure, (bars,), (text,), {-1: [[bar] for bar in bars]}))
+            yield "a proof shows that bars are independent that are not"
+        except truss.NotProved:
+            continue
+
+
 def faults_of_truss(numbers, place):
     """What is said wrong of a drawn truss."""
     structure, bars, pins, rollers = drawn_truss(numbers)
@@ -183,6 +202,7 @@ def faults_of_truss(numbers, place):
     yield from other_parts(found, pairs, echelon.spans)
     if width < 50:
         yield from other_proof(found, place % 5 > 0)
+        yield from forged_proofs(found)
 
 
 def line_row(one, other, axes):
@@ -241,6 +261,7 @@ def faults_of_bodies(numbers, place):
              for other in bodies for one in bodies if one < other]
     yield from other_parts(found, pairs, echelon.spans)
     yield from other_proof(found, False)
+    yield from forged_proofs(found)
 
 
 def alter(numbers, text):
