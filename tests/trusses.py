@@ -317,10 +317,13 @@ def faults_of_altered(numbers):
                 shutil.copytree(good, bad)
                 name = numbers.choice([it for it in sorted(os.listdir(good)) if it != "proof.txt"])
                 path = pathlib.Path(bad, name)
-                path.write_text(alter(numbers, path.read_text()))
+                text = path.read_text()
+                path.write_text(alter(numbers, text))
+                is_other = name.endswith(".txt") and path.read_text() != text
                 names_it = name == "bars.csv" and truss_of(bad) != truss_of(good)
                 shown = None if names_it else shown_in(bad)
-                yield f"{name} is altered, and {shown} is shown" if is_wrong(shown, right) else None
+                is_bad = is_wrong(shown, right) or is_other and shown is not None
+                yield f"{name} is altered, and {shown} is shown" if is_bad else None
                 shutil.rmtree(bad)
 
 
