@@ -95,7 +95,7 @@ class Problem:
         self.count = numbers.randint(1, 9)
         self.names = [f"{'ABC'[it % 3]}.d{it // 3}" for it in range(self.count)]
         for it in range(1, self.count):
-            if numbers.random() < .1:
+            if numbers.random() < .35:
                 self.names[it] = self.names[it - 1].split(".more")[0] + ".more"
         if len(set(self.names)) < self.count:
             self.names = [f"x{it}" for it in range(self.count)]
