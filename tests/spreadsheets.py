@@ -5,9 +5,9 @@ the top of the repository.
 Draws small tables of wishes and limits, with and without the columns day, week, kind, must, never,
 last and least; makes a roster of each, and compares what it meets, its gain and what it keeps of
 last time with what is found by trying all plans. Two weeks of more than 500 elements are solved
-together. Then it spoils a table in each way of a list, and expects that the package says what is wrong; saves it in
-other ways, which have to give the same description; and has the commands read files that are none
-of theirs. What is wrong is printed. The last line is `N passed, M failed`, and the status is 1 if
+together. Then it spoils a table in each way of a list, and expects that the package says what is
+wrong; saves it in other ways, which have to give the same description; and has the commands read
+files that are none of theirs. What is wrong is printed. The last line is `N passed, M failed`, and the status is 1 if
 something failed. TABLES is 100 and SEED 1 if they are not given; the program is
 crates/mat_main/out/mat_main if none is named.
 """
@@ -209,7 +209,8 @@ def spoilt_tables(tables):
     many = ''.join(f'Ada,Mon early {it},5\n' for it in range(300))
     rooms = ''.join(f'Mon early {it},2,1\n' for it in range(300))
     note = tables.described('person,shift,gain\n' + many, f'name,most,least\nAda,9,\n{rooms}')
-    said = 'there are 300 wishes (a wish of a shift with a least number is two elements: 600 in all)'
+    said = ('there are 300 wishes (a wish of a shift with a least number is two elements: 600 in'
+            ' all)')
     yield (f'600 elements: {note[:400]}', said in note and 'give the wishes a column week' in note)
 
 

@@ -19,7 +19,8 @@ OVER = 0.2
 
 class Progress:
     """Tells what is going on, as a line on standard error. Nothing is told in the first two
-    seconds. On a terminal each line is written over the last one, and goes away at the end.
+    seconds, or at all if the variable MATBENCH_QUIET is set. On a terminal each line is written
+    over the last one, and goes away at the end.
 
     Used as `with Progress("limits") as progress: .. progress.tell("12 of 40 solved")`; the name
     stands in front of each line."""

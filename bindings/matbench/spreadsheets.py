@@ -2,8 +2,8 @@
 
 A file may be in UTF-8, UTF-16 or UTF-32, or else it is taken for Western Windows (cp1252), and a
 note says so. Between cells are commas, semicolons, tabs or |, and a first line such as sep=; may
-say which. Spaces around a cell, line ends within one, empty lines and empty last columns do not count.
-The first line has the heads of the columns, in capitals or not and in any order.
+say which. Spaces around a cell, line ends within one, empty lines and empty last columns do not
+count. The first line has the heads of the columns, in capitals or not and in any order.
 """
 from __future__ import annotations
 

@@ -1,5 +1,5 @@
-"""Parts of all plans, those with an element and those without it, until the bound of each part meets
-the best plan."""
+"""Parts of all plans, those with an element and those without it, until the bound of each part
+meets the best plan."""
 from __future__ import annotations
 
 import heapq

@@ -1,4 +1,4 @@
-"""python3 -m matbench limits: a plan that keeps further limits, and a bound that no plan exceeds."""
+"""python3 -m matbench limits: a plan that keeps further limits, and a bound that none exceeds."""
 from __future__ import annotations
 
 from fractions import Fraction

@@ -7,6 +7,7 @@ from typing import TYPE_CHECKING
 from matbench.commands import best, show
 from matbench.descriptions import Description
 from matbench.faults import InputFault
+from matbench.refusals import MatbenchError
 from matbench.weights import pair_of, read_weight
 
 if TYPE_CHECKING:
@@ -108,7 +109,10 @@ class Pair:
 
     def __init__(self, problem: Problem, what: str = "the description"):
         given = Description.of(problem)
-        lines = show(given).split("\n")
+        try:
+            lines = show(given.text).split("\n")
+        except MatbenchError as error:
+            raise InputFault(f"{what}: {error.note}") from error
         form = lines[1].split()
         if form[0] != "pair":
             raise InputFault(f"{what}: its form is {form[0]}, and has to be pair")

@@ -167,32 +167,39 @@ class Pricing:
                 self.share[it] = self.share.get(it, 0.0) + part
         return mixed
 
+    def _next(self, center: list[float], value: float, step: float,
+              is_stuck: bool) -> tuple[Mixed, float] | None:
+        """The next prices and the step to them, with covers and a longer step where the cuts foresee
+        no lower bound; or None where that does not help. `center` is extended for covers."""
+        mixed = self._mix(center, step)
+        is_tight = value - mixed.foreseen < max(0.15, 2e-4 * abs(value - (self.low or 0)))
+        if not is_tight and not is_stuck:
+            return mixed, step
+        if self._more_limits():
+            center += [0.0] * (len(self.bounds.limits) - len(center))
+            return self._mix(center, step), step
+        if not is_tight or step >= 1e6:
+            return None
+        mixed = self._mix(center, step * 100)
+        return None if value - mixed.foreseen < 0.15 else (mixed, step * 100)
+
     def run(self, solves: int) -> None:
         """Searches for prices, by so many solves at most, until the bound meets the best plan or
         does not fall any more."""
         self._set_units()
-        found = self._take([0.0] * len(self.bounds.limits))
+        center, scale, nulls = [0.0] * len(self.bounds.limits), self.bounds.scale, 0
+        found = self._take(center)
         if found is None:
             return
-        scale = self.bounds.scale
-        center, value = [0.0] * len(self.bounds.limits), found.value / scale
-        step, nulls = self._first_step(value), 0
+        value = found.value / scale
+        step = self._first_step(value)
         while step and self.bounds.count < solves and not self.is_closed and not self.until():
-            mixed = self._mix(center, step)
-            foreseen = value - mixed.foreseen
-            is_tight = foreseen < max(0.15, 2e-4 * abs(value - (self.low or 0)))
-            if is_tight or nulls >= NULLS:
-                if self._more_limits():
-                    center += [0.0] * (len(self.bounds.limits) - len(center))
-                    nulls = 0
-                    mixed = self._mix(center, step)
-                elif is_tight and step < 1e6:
-                    step *= 100
-                    mixed = self._mix(center, step)
-                    if value - mixed.foreseen < 0.15:
-                        return
-                else:
-                    return
+            limits = len(self.bounds.limits)
+            following = self._next(center, value, step, nulls >= NULLS)
+            if following is None:
+                return
+            mixed, step = following
+            nulls = 0 if len(self.bounds.limits) > limits else nulls
             found = self._take([it * unit for it, unit in zip(mixed.prices, self._units)])
             if found is None:
                 step /= 10

@@ -1,5 +1,5 @@
-"""Proofs as folders: the charged descriptions and their certificates, which `matbench check` judges,
-the prices, and one sum. A reader needs the folder, the descriptions and the table of limits.
+"""Proofs as folders: the charged descriptions and their certificates, which `matbench check`
+judges, the prices, and one sum. A reader needs the folder, the descriptions and the table of limits.
 
 leaves.csv     the parts of all plans: a path of elements that its plans have (+) or have not (-),
                and the prices, or none where the part has no plan
@@ -89,7 +89,8 @@ def write_proof(outcome: Outcome, folder: str, progress: Progress | None = None)
     except OSError as error:
         raise InputFault(f"{folder} cannot be made: {error.strerror}") from error
     joined = outcome.joined
-    covers = [(it.name, it.source.name, it.most, " ".join(joined.names[each] for each in it.amounts))
+    covers = [(it.name, it.source.name, it.most,
+               " ".join(joined.names[each] for each in it.amounts))
               for it in outcome.limits if it.source]
     write(_rows(["name", "limit", "most", "elements"], covers), f"{folder}/covers.csv")
     rows = []

@@ -75,7 +75,7 @@ class _Plans:
         self.best: set[int] | None = None
         self.gain: int | None = None
         self._tried: set[tuple[int, ...]] = set()
-        self._spent = 0.0
+        self._spent, self._began = 0.0, time.monotonic()
 
     def take(self, members: set[int]) -> None:
         """Keeps a plan, if it is the best so far."""
@@ -90,7 +90,7 @@ class _Plans:
         gain = self.search.joined.gain_of(plan.members)
         began = time.monotonic()
         near = self.gain is None or gain >= self.gain - 0.02 * abs(self.gain)
-        if near and self._spent < 0.3 * (began - self._end + SECONDS) + 2:
+        if near and self._spent < 0.3 * (began - self._began) + 2:
             self.search.exchange(plan, self.size, min(self._end, began + 0.5))
             self._spent += time.monotonic() - began
             self.take(plan.members)
@@ -130,7 +130,7 @@ class _Plans:
 
 
 def _first_plan(plans: _Plans, use_highs: bool, seconds: float) -> None:
-    """The plans to begin with: none of all sizes is worse than the empty one; and the one that HiGHS
+    """The plans to begin with: the empty one, if all sizes are asked for; and the one that HiGHS
     finds, if scipy is there."""
     if plans.size is None and plans.search.keeps(()):
         plans.take(set())

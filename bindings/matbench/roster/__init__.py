@@ -22,5 +22,5 @@ from matbench.roster.solving import Change, Roster, solve, what_if
 from matbench.roster.writing import write_request
 
 __all__ = ["Change", "InputFault", "PersonLimit", "Request", "Roster", "Shift", "ShiftLimit",
-           "Wish", "changes_table", "json_text", "people_table", "picture", "read_request", "shifts_table",
-           "solve", "told", "what_if", "wishes_table", "with_last", "words", "write_request"]
+           "Wish", "changes_table", "json_text", "people_table", "picture", "read_request",
+           "shifts_table", "solve", "told", "what_if", "wishes_table", "with_last", "words", "write_request"]

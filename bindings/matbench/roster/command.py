@@ -71,8 +71,8 @@ def _parser() -> argparse.ArgumentParser:
     parser.add_argument("wishes", metavar="WISHES")
     parser.add_argument("limits", metavar="LIMITS")
     parser.add_argument("--size", type=int, metavar="K", help="grant exactly K wishes")
-    parser.add_argument("--seconds", type=float, default=SECONDS, metavar="T", help="search for some"
-                        f" T seconds at most, where a search is needed ({SECONDS:.0f})")
+    parser.add_argument("--seconds", type=float, default=SECONDS, metavar="T",
+                        help=f"search for some T seconds at most, where a search is needed ({SECONDS:.0f})")
     parser.add_argument("--last", metavar="ROSTER",
                         help="a roster of last time, as --format csv writes it")
     parser.add_argument("--one-more", action="store_true",
