@@ -405,6 +405,7 @@ class Refusals(unittest.TestCase):
 LONG = """
 import os, signal, sys, threading, time
 import matbench
+signal.signal(signal.SIGINT, signal.default_int_handler)
 half = matbench.UnionOf(*[matbench.Uniform(100)] * 2)
 problem = matbench.pair([it % 10 for it in range(400)],
                         matbench.Dual(matbench.UnionOf(half, matbench.Uniform(100))),
