@@ -30,7 +30,8 @@ Plans that change little of a last one: from the best plan to the one of fewest 
 are best where a change costs so much. A change is an element of the last plan that is dropped, or
 one that is new. Between two of these plans there may be others, which are best at no such cost.
 
-FILE is a description of the form `pair`, or `list` with one matroid. LAST is a text with the names
+FILE is a description of the form `pair`, or `list` with one matroid. If its weights have the form
+A:B, what a change costs is not shown. LAST is a text with the names
 of the last plan, with spaces, commas or line ends between them, as `python3 -m matbench names
 --best` prints it. Names that FILE does not have are changes in any case, and are not counted."""
 EXAMPLES = """\
@@ -43,7 +44,8 @@ The status is 0, or 1 where there is no plan, or 2 where what was given is not t
 
 class Choice(NamedTuple):
     """A plan that is best where a change costs from `least` to `most` of what an element weighs,
-    None for any cost; with its changes, what is new, and what is dropped."""
+    None for any cost; with its changes, what is new, and what is dropped. If weights have two
+    numbers, a cost is one of the first, and the second numbers count next to nothing in it."""
 
     changes: int
     plan: Plan
@@ -167,13 +169,16 @@ def _cost(cost: Fraction | None) -> str | None:
     return str(cost) if cost.denominator == 1 else f"{float(cost):.2f}"
 
 
-def _table(choices: Sequence[Choice]) -> Table:
-    """A row for each plan."""
-    rows: list[list[Any]] = [
-        [it.changes, str(it.plan.weight), it.plan.size, _cost(it.least), _cost(it.most),
-         " ".join(it.new), " ".join(it.dropped)] for it in choices]
-    return Table(("changes", "weight", "size", "best if a change costs", "to", "new", "dropped"),
-                 rows)
+def _table(choices: Sequence[Choice], has_ties: bool) -> Table:
+    """A row for each plan. What a change costs is left out if weights have two numbers."""
+    heads: tuple[str, ...] = ("changes", "weight", "size")
+    costs: tuple[str, ...] = () if has_ties else ("best if a change costs", "to")
+    rows: list[list[Any]] = []
+    for it in choices:
+        shown = [] if has_ties else [_cost(it.least), _cost(it.most)]
+        rows.append([it.changes, str(it.plan.weight), it.plan.size, *shown, " ".join(it.new),
+                     " ".join(it.dropped)])
+    return Table((*heads, *costs, "new", "dropped"), rows)
 
 
 def main(words: Sequence[str]) -> int:
@@ -189,7 +194,7 @@ def main(words: Sequence[str]) -> int:
             choices = _choices(wanted, last, lambda found: progress.tell(f"{found} plans found"))
         except NoPlan as error:
             return no_plan(error)
-    table = _table(choices)
+    table = _table(choices, any(wanted.aims()[1]))
     if given.format == "table":
         gone = f"Not in the description: {' '.join(unknown)}.\n\n" if unknown else ""
         write(gone + table.text())

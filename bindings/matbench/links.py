@@ -44,6 +44,8 @@ def _rows(source: Source) -> list[tuple[str, str, str, int]]:
             if not row[column]:
                 raise row.fault(f"there is no {column}")
         cost = whole_of(row, "cost", 10 ** 12)
+        if cost is None and "cost" in sheet.heads:
+            raise row.fault("there is no cost")
         found.append((row["link"], row["from"], row["to"], cost or 0))
     for name, count in collections.Counter(it[0] for it in found).items():
         if count > 1:

@@ -30,7 +30,9 @@ and `truncate`, with its cap, how much of it the best plan uses, and what the be
 with one place more. Each is solved anew; a limit that the best plan does not fill gains nothing.
 
 FILE is a description of the form `pair`, or `list` with one matroid. A limit is called after what
-the names of its elements have in common."""
+the names of its elements have in common. Of a roster with least numbers `roster --one-more` tells
+what one more place gains: in its description a least number is a limit of its own, and one more
+place there asks for one more person."""
 EXAMPLES = """\
 examples:
   python3 -m matbench one-more wishes.txt
