@@ -14,4 +14,4 @@ pub mod UniformRows
 pub mod UniformRuns
 pub mod LabelClasses
 pub mod LabelledMatroids
-pub mod WordInclusions
+pub mod SharedMembers

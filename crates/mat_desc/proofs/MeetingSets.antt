@@ -11,7 +11,7 @@ use Rattle.mat_count.specs.Laminar.{crosses, is_crossed}
 use Rattle.mat_count.specs.LaminarFaults.{IsFirstCrossing, NoneCrosses}
 use Rattle.mat_count.specs.LaminarMatroids.{IsPlaceTable}
 use Rattle.mat_count.proofs.CrossedSets.{is_crossed-search}
-use Rattle.mat_count.proofs.WordInclusions.{crosses-apart}
+use Rattle.mat_count.proofs.SharedMembers.{crosses-apart}
 use Rattle.mat_desc.specs.EarlierSets.{AreMeeting}
 
 -- ---- the places of the sets that share a member with the next

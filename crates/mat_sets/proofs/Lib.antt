@@ -17,6 +17,7 @@ pub mod Search
 pub mod Bits
 pub mod BitScan
 pub mod BitMembers
+pub mod WordInclusions
 pub mod SetTests
 pub mod Places
 pub mod UnionWalks

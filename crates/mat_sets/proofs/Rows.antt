@@ -1,10 +1,10 @@
 -- Numbers are put into the rows at several places of a list, or taken out of each row, one place after the other: it is done to the rows
 -- at the first places.
 use Rattle.std.proofs.Common.{◌≡◌, ℕ, ◌+◌, ◌<◌, ◌≤◌, Bool, true, false, not, ◌&&◌, ◌||◌, eqb, ltb, List, [], length, get_or, set, take}
-use Rattle.std.proofs.Common.{inl, inr, sym, ap, ◌∙◌, arith, get_or-set_other, get_or-set_same, length-set}
+use Rattle.std.proofs.Common.{inl, inr, refl, sym, ap, ◌∙◌, arith, get_or-set_other, get_or-set_same, length-set}
 use Rattle.std.proofs.lemmas.Bool.{cases_eq, cases_lt, eq-eqb, le-ltb, lt-ltb, ne_eqb}
 use Rattle.std.proofs.lemmas.List.{get_or_past}
-use Rattle.mat_sets.specs.Rows.{row_at, AreRemoved, IsEntered}
+use Rattle.mat_sets.specs.Rows.{row_at, AreEmptied, AreRemoved, IsEntered}
 use Rattle.mat_sets.specs.Sets.{is_member, with_one}
 use Rattle.mat_sets.proofs.Members.{is_member-with_one}
 use Rattle.mat_sets.proofs.Steps.{is_member-take_more}
@@ -101,3 +101,34 @@ removed_all gone rows rows' at long past h = record {
         ap (is_member x) (get_or_past rows' i [] (omega arith)) ∙ sym (ap (λ r. is_member x r && not (is_member x gone)) none)
   ];
 }
+
+-- ---- empty rows
+
+-- the rows at the first i places are empty
+pub AreEmptied-none : (places : List ℕ) (rows : List (List ℕ)) → AreEmptied (take 0 places) rows rows
+AreEmptied-none places rows = record { count = refl; members = λ i x. sym (and_all (is_member x (row_at rows i))) }
+
+pub AreEmptied-more : (places : List ℕ) (k : ℕ) (old new : List (List ℕ)) (row : List ℕ) → k < length places → get_or places k 0 < length old
+    → row ≡ [] → AreEmptied (take k places) old new → AreEmptied (take (k + 1) places) old (set new (get_or places k 0) row)
+AreEmptied-more places k old new row l below none r =
+    let here = get_or places k 0 in
+    let within : here < length new = omega (arith, below, r.count) in
+    record {
+      count = length-set new here row ∙ r.count;
+      members = λ i x. elim (cases_eq i here) [
+        | inl same ↦ ap (λ w. is_member x (row_at (set new here row) w)) same
+            ∙ ap (is_member x) (get_or-set_same new here row [] within ∙ none)
+            ∙ emptied (is_member x (row_at old i)) (is_member i (take k places)) (is_member i (take (k + 1) places))
+            (is_member-take_more places k i l ∙ ap (λ b. is_member i (take k places) || b) (eq-eqb i here same))
+        | inr d ↦ ap (is_member x) (get_or-set_other new here i row [] d)
+            ∙ r.members i x
+            ∙ left_alone (is_member x (row_at old i)) (is_member i (take k places)) (is_member i (take (k + 1) places))
+            (is_member-take_more places k i l ∙ ap (λ b. is_member i (take k places) || b) (ne_eqb i here d))
+      ];
+    }
+  where
+    emptied : (old before more : Bool) → more ≡ (before || true) → false ≡ (old && not more)
+    emptied old before more e = grind arith
+
+    left_alone : (old before more : Bool) → more ≡ (before || false) → (old && not before) ≡ (old && not more)
+    left_alone old before more e = grind arith

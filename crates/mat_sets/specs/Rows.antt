@@ -16,3 +16,8 @@ pub record IsEntered (k : ℕ) (places : List ℕ) (before after : List (List �
 pub record AreRemoved (gone : List ℕ) (before after : List (List ℕ)) : Type 0 where
   pub count : length after ≡ length before
   pub members : (i x : ℕ) → is_member x (row_at after i) ≡ (is_member x (row_at before i) && not (is_member x gone))
+
+-- the rows at these places are empty, and the others as before
+pub record AreEmptied (places : List ℕ) (before after : List (List ℕ)) : Type 0 where
+  pub count : length after ≡ length before
+  pub members : (i x : ℕ) → is_member x (row_at after i) ≡ (is_member x (row_at before i) && not (is_member i places))

@@ -1,6 +1,6 @@
 //! Rows of bits: a set of numbers at each place of a list.
 ghost use Rattle.std.specs.Prelude.{◌≡◌, ◌<◌, ◌++◌, ◌∷◌, [], length, replicate, slice_set, IfOk, OnOk, OnErr};
-ghost use Rattle.mat_sets.specs.{Rows.{row_at, IsEntered}, Sets.{with_one, AllBelow}};
+ghost use Rattle.mat_sets.specs.{Rows.{row_at, AreEmptied, AreRemoved, IsEntered}, Sets.{with_one, AllBelow}};
 
 use crate::bit_set::BitSet;
 use std::alloc::{AllocError, Global};
@@ -89,6 +89,32 @@ impl BitRows {
     {
         for i in places {
             self.insert(*i, k)?;
+        }
+        Ok(())
+    }
+
+    /// Takes the members of a set out of each row. It takes no memory.
+    pub fn remove_from_each(&mut self, gone: &BitSet)
+        ensures { AreRemoved gone.now self.old self.new }
+    {
+        for at in 0..self.rows.len() {
+            self.rows[at].remove_all(gone);
+        }
+    }
+
+    /// Empties the rows at these places, which then have room for the numbers below `width`. The only error is want of memory.
+    pub fn empty_each(
+        &mut self,
+        alloc: Global,
+        places: &[u32],
+        width: u32,
+    ) -> Result<(), AllocError>
+        requires { AllBelow (length self.old) places.now }
+        ensures { OnOk result (AreEmptied places.now self.old self.new) }
+    {
+        for i in places {
+            let row = BitSet::with_capacity(alloc, width)?;
+            self.replace(*i, row);
         }
         Ok(())
     }

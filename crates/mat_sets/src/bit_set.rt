@@ -1,9 +1,9 @@
 //! A set of numbers kept as bits, seen as a strictly rising list.
-ghost use Rattle.std.specs.Prelude.{◌≡◌, ℕ, ◌+◌, not, ◌&&◌, ◌||◌, ◌≤◌, ◌^◌, List, [], length, max, IfOk, OnOk, OnErr};
+ghost use Rattle.std.specs.Prelude.{◌≡◌, ◌↔◌, ℕ, ◌+◌, not, ◌&&◌, ◌||◌, ◌≤◌, ◌^◌, List, [], length, max, slice_index_or, IfOk, IsTrue, OnOk, OnErr};
 ghost use Rattle.mat_sets.specs.{
   Bits.{AreMembersBelow, IsWordOf, bits_of},
   Search.{IsNextFrom},
-  Sets.{all_below, is_member, with_one, without_one, IsRising},
+  Sets.{all_below, is_member, with_one, without_one, IsRising, IsSubset},
 };
 
 use crate::bit_row::BitRow;
@@ -82,6 +82,22 @@ impl BitSet {
         if at < self.words.len() {
             self.words[at] &= !(1 << (x % 64));
         }
+    }
+
+    /// Takes the members of another set out, 64 numbers at a time. It takes no memory.
+    pub fn remove_all(&mut self, gone: &BitSet)
+        ensures { (x : ℕ) → is_member x self.new ≡ (is_member x self.old && not (is_member x gone.now)) }
+    {
+        clear_all(&mut self.words, gone.as_words());
+    }
+
+    /// Whether each member is one of the other set. The time is that of the words; it takes no memory.
+    #[tactic(auto, using(crate::proofs::WordInclusions::inclusions))]
+    pub fn is_subset(&self, other: &BitSet) -> bool
+        ensures inside { IsTrue result ↔ IsSubset self.now other.now }
+        ensures rises { IsRising self.now }
+    {
+        is_inside(self.words.as_slice(), other.words.as_slice())
     }
 
     /// Another set of the same members. The time is that of the words. The only error is want of memory.
@@ -213,4 +229,24 @@ fn push_bits(items: &mut Vec<u32>, first: u32, word: u64) -> Result<(), AllocErr
         rest &= !(1 << bit);
     }
     Ok(())
+}
+
+/// The word at a place, or 0 past the last one.
+fn word_at(words: &[u64], at: usize) -> u64
+    ensures { result ≡ slice_index_or words.now at 0 }
+{
+    if at < words.len() { words[at] } else { 0 }
+}
+
+/// Whether each number of the first words is one of the others: each word is looked at at most once.
+#[tactic(auto, using(crate::proofs::WordInclusions::inclusions))]
+fn is_inside(words: &[u64], others: &[u64]) -> bool
+    ensures { IsTrue result ↔ IsSubset (bits_of words.now) (bits_of others.now) }
+{
+    for at in 0..words.len() {
+        if words[at] & !word_at(others, at) != 0 {
+            return false;
+        }
+    }
+    true
 }

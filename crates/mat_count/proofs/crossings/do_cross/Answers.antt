@@ -1,5 +1,5 @@
 use Rattle.std.proofs.Common.{ap, not, sym, ◌∙◌}
-use Rattle.mat_count.proofs.WordInclusions.{crosses-inside, crosses-met, crosses-unmet}
+use Rattle.mat_count.proofs.SharedMembers.{crosses-inside, crosses-met, crosses-unmet}
 use Rattle.mat_count.proofs.crossings.do_cross.Goals as goal
 
 pub returns-then-is_disjoint : goal.returns-then-is_disjoint
