@@ -1,5 +1,6 @@
 pub mod Joining
 pub mod MinorRows
+pub mod MinorColumns
 pub mod DualGreedy
 pub mod DualOfDual
 pub mod GreedyReversed
