@@ -31,7 +31,7 @@ abbrev mutual
   KeepsAny (transversal n family) I (Transversal matching) = IsKeptMatching n family I matching
   KeepsAny (gammoid vertices arcs sources targets) I (Gammoid linking) = IsKeptLinking vertices arcs sources targets I linking
   KeepsAny (gf2 dim columns) I (Gf2 basis) = IsKeptBasis (column_of columns) I basis
-  KeepsAny (dual t) I (Dual k) = IsDualKept (element_count t) (is_independent t) I k.base k.columns.items
+  KeepsAny (dual t) I (Dual k) = IsDualKept (element_count t) (is_independent t) I k.set k.base k.columns
   KeepsAny (dual t) I (DualOfDual' p inner) = KeepsDual t I inner
   KeepsAny (truncate cap t) I k = KeepsAny t I k
   KeepsAny (restrict kept t) I k = KeepsAny t I k

@@ -13,9 +13,9 @@ use mat_sets::{ElemSet, SetList};
 pub enum AnyKept {
     /// Nothing, by a uniform matroid.
     Nothing,
-    /// The full classes and their members.
+    /// The set, and the sizes of the full classes.
     Partition(FullSets),
-    /// The full sets of the family and their members.
+    /// The set, and the sizes of the full sets of the family.
     Laminar(FullSets),
     /// A forest of the set's edges, of which each tree has a root.
     Graphic(RootedForest),
@@ -25,7 +25,7 @@ pub enum AnyKept {
     Gammoid(KeptLinking),
     /// A basis of the columns of the members, each with the members of which it is the sum, and parity checks of its span.
     Gf2(KeptBasis),
-    /// A base of the matroid within the dual that is disjoint from the set, and the columns at it.
+    /// The set, a base of the matroid within the dual that is disjoint from it, and the columns at the base.
     Dual(DualKept),
     /// By the dual of a dual: what the matroid within both keeps.
     DualOfDual(Box<AnyKept>),

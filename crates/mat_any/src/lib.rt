@@ -3,6 +3,7 @@
 
 mod any;
 mod any_kept;
+mod columns_at;
 mod flat;
 mod flat_kept;
 mod independence;

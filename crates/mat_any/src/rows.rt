@@ -1,7 +1,7 @@
 //! The exchanges of an element in a matroid of any kind, by what is kept of the set and by recursion on the matroids within it.
 ghost use Rattle.std.specs.Prelude.{◌≡◌, ◌<◌, ℕ, true, false, [], length, map, IfNone, IfOk, IfSome};
 ghost use Rattle.mat_sets.specs.{Families.{family_union}, Sets.{IsRising, IsSet, is_member, union}};
-ghost use Rattle.mat_laws.specs.{Columns.{AreColumns}, Exchanges.{circuit_members, row_of}, Matroids.{IsMaximal}};
+ghost use Rattle.mat_laws.specs.{Exchanges.{circuit_members, row_of}, Matroids.{IsMaximal}};
 ghost use Rattle.mat_minors.specs.{DualRows.{IsDualKept}, Minors.{is_contracted, is_dual, is_restricted, is_truncated}};
 ghost use Rattle.mat_union.specs.{
   EndedSearches.{IsEnded, IsReady},
@@ -20,7 +20,6 @@ ghost use Rattle.mat_any.specs.{
 
 use crate::any::AnyMatroid;
 use crate::any_kept::AnyKept;
-use crate::part::Part;
 use crate::sizes::common_size_of;
 use mat_laws::{Exchange, Matroid};
 use mat_minors::{DualKept, dual_adds, dual_row};
@@ -136,30 +135,6 @@ pub(crate) fn adds(
     }
 }
 
-/// For each member of an independent set, at its number, the elements outside it that can take its place, by what is kept of the set: a graphic
-/// matroid makes no rows for them, each other kind one for each element outside. The only error is want of memory.
-pub(crate) fn columns(
-    alloc: Global,
-    matroid: &AnyMatroid,
-    base: &ElemSet,
-    kept: &AnyKept,
-) -> Result<Vec<ElemSet>, AllocError>
-    requires sound { IsSound (tree_of matroid.now) }
-    requires base { is_independent (tree_of matroid.now) base.now ≡ true }
-    requires kept { KeepsAny (tree_of matroid.now) base.now kept.now }
-    ensures { IfOk result (λ columns. AreColumns (element_count (tree_of matroid.now)) (is_independent (tree_of matroid.now)) base.now columns.items) }
-{
-    match (matroid, kept) {
-        (AnyMatroid::Graphic(graphic), AnyKept::Graphic(forest)) => {
-            graphic.columns(alloc, base, forest)
-        }
-        _ => {
-            let part = Part { matroid };
-            part.columns(alloc, base, kept)
-        }
-    }
-}
-
 // Whether a matroid is made of others, so that `adds` makes a row.
 fn is_made_of_others(matroid: &AnyMatroid) -> bool {
     matches!(
@@ -245,17 +220,17 @@ fn takes_at_once(
 }
 
 // Whether x can be added in a dual, of whose matroid the laws alone are used.
-fn dual_adds_within(inner: &AnyMatroid, base: &ElemSet, kept: &DualKept, x: u32) -> bool
+fn dual_adds_within(inner: &AnyMatroid, _base: &ElemSet, kept: &DualKept, x: u32) -> bool
     requires sound { IsSound (tree_of inner.now) }
-    requires base { is_dual (element_count (tree_of inner.now)) (is_independent (tree_of inner.now)) base.now ≡ true }
-    requires kept { IsDualKept (element_count (tree_of inner.now)) (is_independent (tree_of inner.now)) base.now
-        kept.now.base kept.now.columns.items }
+    requires base { is_dual (element_count (tree_of inner.now)) (is_independent (tree_of inner.now)) _base.now ≡ true }
+    requires kept { IsDualKept (element_count (tree_of inner.now)) (is_independent (tree_of inner.now)) _base.now
+        kept.now.set kept.now.base kept.now.columns }
     requires below { x < element_count (tree_of inner.now) }
-    requires outside { is_member x base.now ≡ false }
-    ensures { result ≡ (row_of (is_dual (element_count (tree_of inner.now)) (is_independent (tree_of inner.now))) base.now x).addable }
+    requires outside { is_member x _base.now ≡ false }
+    ensures { result ≡ (row_of (is_dual (element_count (tree_of inner.now)) (is_independent (tree_of inner.now))) _base.now x).addable }
 {
     inner.lawful();
-    dual_adds(base, kept, x)
+    dual_adds(kept, x)
 }
 
 // Whether the matroid within the dual of a dual takes x at once.
@@ -406,7 +381,7 @@ fn dual_row_within(
     requires sound { IsSound (tree_of inner.now) }
     requires base { is_dual (element_count (tree_of inner.now)) (is_independent (tree_of inner.now)) base.now ≡ true }
     requires kept { IsDualKept (element_count (tree_of inner.now)) (is_independent (tree_of inner.now)) base.now
-        kept.now.base kept.now.columns.items }
+        kept.now.set kept.now.base kept.now.columns }
     requires below { x < element_count (tree_of inner.now) }
     requires outside { is_member x base.now ≡ false }
     ensures row { IfOk result (λ e. e ≡ row_of (is_dual (element_count (tree_of inner.now)) (is_independent (tree_of inner.now))) base.now x) }

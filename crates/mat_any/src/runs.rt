@@ -15,7 +15,8 @@ ghost use Rattle.mat_any.specs.{
 
 use crate::any::AnyMatroid;
 use crate::any_kept::AnyKept;
-use crate::rows::{self, place_for};
+use crate::columns_at::columns;
+use crate::rows::place_for;
 use crate::sizes::{common_size_of, size_of};
 use mat_laws::Matroid;
 use mat_minors::{DualKept, first_taken, items_in, members_first, others_first};
@@ -410,14 +411,20 @@ fn dual_of_dual_next(
 fn columns_keep(alloc: Global, inner: &AnyMatroid, set: &ElemSet) -> Result<DualKept, AllocError>
     requires sound { IsSound (tree_of inner.now) }
     requires base { is_dual (element_count (tree_of inner.now)) (is_independent (tree_of inner.now)) set.now ≡ true }
-    ensures { IfOk result (λ k. IsDualKept (element_count (tree_of inner.now)) (is_independent (tree_of inner.now)) set.now k.base k.columns.items) }
+    ensures { IfOk result (λ k. IsDualKept (element_count (tree_of inner.now)) (is_independent (tree_of inner.now)) set.now k.set k.base k.columns) }
 {
     inner.lawful();
     let outside = ElemSet::all_below(alloc, size_of(inner))?.minus(alloc, set)?;
     let base = run(alloc, inner, outside.as_slice())?;
     let kept = keep(alloc, inner, &base)?;
-    let columns = rows::columns(alloc, inner, &base, &kept)?;
-    Ok(DualKept { base, columns })
+    let all = columns(alloc, inner, &base, &kept)?;
+    let marks = set.to_bits(alloc)?;
+    let base_marks = base.to_bits(alloc)?;
+    Ok(DualKept {
+        set: marks,
+        base: base_marks,
+        columns: all,
+    })
 }
 
 // A maximal independent subset of the contracted elements, the set together with it, and what is kept of their union.

@@ -2,7 +2,7 @@
 -- climbing ends at a root, those so far are some of the members that the row then has.
 use Rattle.std.proofs.Common.{◌≡◌, ℕ, ◌<◌, ◌≤◌, ◌≢◌, Bool, true, false, not, ◌&&◌, ◌||◌, eqb, ltb, List, [], length, get_or, set}
 use Rattle.std.proofs.Common.{inl, inr, refl, sym, ap, ◌∙◌, arith, get_or-set_other, get_or-set_same, length-set}
-use Rattle.std.proofs.lemmas.Bool.{and_left, and_right, cases_eq, cases_lt, eq-eqb, le-ltb, lt-ltb, ne_eqb, or_left}
+use Rattle.std.proofs.lemmas.Bool.{and_right, cases_eq, cases_lt, eq-eqb, le-ltb, lt-ltb, ne_eqb, or_left}
 use Rattle.mat_sets.specs.Rows.{row_at, IsEntered}
 use Rattle.mat_sets.specs.Sets.{is_member, union, with_one, without_one, AllBelow}
 use Rattle.mat_sets.proofs.Ground.{AllBelow-member}
@@ -155,14 +155,6 @@ module _ (n : ℕ) (ends : ℕ → ℕ × ℕ) (I : List ℕ) (x : ℕ) (small :
       (IsEntered-over x t.members members old middle new (λ z m. ap (is_member z) e ∙ t.inside.inside z m) t.entered all)
 
 -- ---- all rows
-
-pub AreEntering-none : (n : ℕ) (p : List ℕ → Bool) (I : List ℕ) (columns : List (List ℕ)) → length columns ≡ n
-    → ((y : ℕ) → row_at columns y ≡ []) → AreEntering n p I 0 columns
-AreEntering-none n p I columns long empty = record {
-  long = long;
-  columns_are = λ y k m. ap (is_member k) (empty y) ∙ sym (and_left (ltb k 0) _ (le-ltb k 0 (omega arith)));
-  others_are = λ y k m. ap (is_member k) (empty y);
-}
 
 pub AreEntering-all : (n : ℕ) (p : List ℕ → Bool) (I : List ℕ) (z : ℕ) (columns : List (List ℕ)) → n ≤ z → AreEntering n p I z columns
     → AreColumns n p I columns

@@ -13,9 +13,8 @@ ghost use Rattle.mat_graphic.specs.{
 use crate::hanging::{new_member, with_edge};
 use crate::rooted_forest::{RootedForest, are_joined, enter_trail, root_trees, trail};
 use crate::union_find::{settle, singletons, unite};
-use mat_laws::columns::{empty_columns, enter};
 use mat_laws::{Exchange, Matroid};
-use mat_sets::{BitSet, ElemSet, Pairs};
+use mat_sets::{BitRows, BitSet, ElemSet, Pairs};
 use std::alloc::{AllocError, Global};
 
 /// The matroid of the edges of a graph in which a set is independent where it is a forest: no walk along a non-empty
@@ -143,7 +142,7 @@ impl Graphic {
     // those of the trail between them, and else all.
     fn enter_exchanges(
         &self,
-        columns: &mut Vec<ElemSet>,
+        columns: &mut BitRows,
         base: &ElemSet,
         kept: &RootedForest,
         x: u32,
@@ -153,16 +152,16 @@ impl Graphic {
         requires kept { IsRootedForest self.now.vertices (ends_of self.now.edges) base.now kept.now }
         requires below { x < length self.now.edges }
         requires outside { is_member x base.now ≡ false }
-        requires long { length columns.old.items ≡ length self.now.edges }
+        requires long { length columns.old ≡ length self.now.edges }
         ensures { OnOk result (IsEntered x (row_of (is_graphic (length self.now.edges) (ends_of self.now.edges)) base.now x).with
-            columns.old.items columns.new.items) }
+            columns.old columns.new) }
     {
         let (first, second) = self.edges.get(x as usize);
         let joined = enter_trail(columns, kept, second, first, x)?;
         if joined {
             return Ok(());
         }
-        enter(columns, x, base.as_slice())
+        columns.insert_each(base.as_slice(), x)
     }
 }
 
@@ -266,12 +265,14 @@ impl Matroid for Graphic {
         alloc: Global,
         base: &ElemSet,
         kept: &RootedForest,
-    ) -> Result<Vec<ElemSet>, AllocError> {
+    ) -> Result<BitRows, AllocError> {
         self.lawful();
         let size = self.size();
-        let mut columns = empty_columns(alloc, size)?;
+        let members = base.to_bits(alloc)?;
+        let mut columns = BitRows::with_rows(alloc, size, 0)?;
+        columns.empty_each(alloc, base.as_slice(), size)?;
         for x in 0..size {
-            if !base.contains(x) {
+            if !members.contains(x) {
                 self.enter_exchanges(&mut columns, base, kept, x)?;
             }
         }

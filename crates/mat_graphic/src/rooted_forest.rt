@@ -7,7 +7,7 @@ ghost use Rattle.mat_graphic.specs.{
   TrailSearches.{AreEnds, AreJoined, ArePlaces, IsClimbing, IsExploring, IsFindable, IsFront, IsOrder, IsTrailEntered, IsTrailSet, IsTree},
 };
 
-use mat_sets::{BitSet, ElemSet};
+use mat_sets::{BitRows, BitSet, ElemSet};
 use std::alloc::{AllocError, Global};
 
 // Where each vertex stands first in a list, and for each place the next one with the same vertex.
@@ -312,7 +312,7 @@ fn climb(
 // place until both meet; false where this leads to a root, and so they are in different trees: by then the columns of some
 // members have the edge.
 fn enter_climb(
-    columns: &mut Vec<ElemSet>,
+    columns: &mut BitRows,
     forest: &RootedForest,
     from: usize,
     to: usize,
@@ -322,11 +322,11 @@ fn enter_climb(
     requires from { from < length forest.now.order.items }
     requires to { to < length forest.now.order.items }
     requires tree { (ends : ℕ → ℕ × ℕ) × (X : List ℕ)
-        × IsTree ends X forest.now.order.items forest.now.through.items forest.now.before.items × AllBelow (length columns.old.items) X }
+        × IsTree ends X forest.now.order.items forest.now.through.items forest.now.before.items × AllBelow (length columns.old) X }
     ensures { IfOk result (λ joined. (ends : ℕ → ℕ × ℕ) (X : List ℕ)
         → IsTree ends X forest.now.order.items forest.now.through.items forest.now.before.items
         → IsTrailEntered ends X (slice_index forest.now.order.items from) (slice_index forest.now.order.items to) edge joined
-        columns.old.items columns.new.items) }
+        columns.old columns.new) }
 {
     let mut first = from;
     let mut second = to;
@@ -334,7 +334,7 @@ fn enter_climb(
         let Some(step) = step_up(forest, first, second) else {
             return Ok(false);
         };
-        columns[step.edge as usize].add(edge)?;
+        columns.insert(step.edge, edge)?;
         first = step.first;
         second = step.second;
     }
@@ -380,9 +380,9 @@ pub(crate) fn trail(
 
 /// Puts an edge into the columns of the edges of the trail from one vertex to another, by climbing from both; false where they
 /// are in different trees: by then the columns of some members have the edge. The time is linear in the length of the trail, or
-/// in the distance to a root, where the edge is greater than what its columns have. The only error is want of memory.
+/// in the distance to a root. The only error is want of memory.
 pub(crate) fn enter_trail(
-    columns: &mut Vec<ElemSet>,
+    columns: &mut BitRows,
     forest: &RootedForest,
     from: u32,
     to: u32,
@@ -392,10 +392,10 @@ pub(crate) fn enter_trail(
     requires from { is_member from forest.now.order.items ≡ true }
     requires to { is_member to forest.now.order.items ≡ true }
     requires tree { (ends : ℕ → ℕ × ℕ) × (X : List ℕ)
-        × IsTree ends X forest.now.order.items forest.now.through.items forest.now.before.items × AllBelow (length columns.old.items) X }
+        × IsTree ends X forest.now.order.items forest.now.through.items forest.now.before.items × AllBelow (length columns.old) X }
     ensures { IfOk result (λ joined. (ends : ℕ → ℕ × ℕ) (X : List ℕ)
         → IsTree ends X forest.now.order.items forest.now.through.items forest.now.before.items
-        → IsTrailEntered ends X from to edge joined columns.old.items columns.new.items) }
+        → IsTrailEntered ends X from to edge joined columns.old columns.new) }
 {
     enter_climb(
         columns,

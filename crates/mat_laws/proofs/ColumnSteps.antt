@@ -1,10 +1,11 @@
 -- The exchanges at an independent set I are turned: the elements outside it enter, one after the other, the columns of the members
 -- whose place they can take.
-use Rattle.std.proofs.Common.{◌≡◌, ℕ, ◌+◌, ◌<◌, Bool, true, false, not, ◌&&◌, ◌||◌, eqb, ltb, List, [], length, get_or}
-use Rattle.std.proofs.Common.{inl, inr, refl, ap, ◌∙◌, arith}
-use Rattle.std.proofs.lemmas.Bool.{cases_lt, eqb-true}
-use Rattle.std.proofs.lemmas.List.{get_or_past}
+use Rattle.std.proofs.Common.{◌≡◌, ℕ, ◌+◌, ◌<◌, Bool, true, false, not, ◌&&◌, ◌||◌, eqb, ltb, List, [], length, get_or, replicate}
+use Rattle.std.proofs.Common.{inl, inr, refl, sym, ap, ◌∙◌, arith}
+use Rattle.std.proofs.lemmas.Bool.{and_left, cases_lt, eqb-true, le-ltb}
+use Rattle.std.proofs.lemmas.List.{get_or_past, get_or-replicate, length-replicate}
 use Rattle.std.proofs.lemmas.Bool.Decides.{nat_tests}
+use Rattle.mat_sets.specs.Rows.{AreEmptied}
 use Rattle.mat_sets.specs.Sets.{is_member, with_one, without_one, AllBelow}
 use Rattle.mat_sets.proofs.Members.{is_member-filter}
 use Rattle.mat_sets.proofs.Ground.{AllBelow-filter, AllBelow-member}
@@ -24,6 +25,24 @@ pub record AreEntering (n : ℕ) (p : List ℕ → Bool) (I : List ℕ) (z : ℕ
 pub row_below : {n : ℕ} {p : List ℕ → Bool} → IsMatroid n p → (I : List ℕ) (x : ℕ) (row : Exchange) → p I ≡ true
     → is_member x I ≡ false → row ≡ row_of p I x → AllBelow n row.with
 row_below {n} {p} laws I x row ok out e = rw (row-with p I x row out e) (AllBelow-filter n (exchanged p I x) I (below laws I ok))
+
+-- no element has entered empty columns, of which those of the members have room
+pub AreEntering-none : {n : ℕ} {p : List ℕ → Bool} (I : List ℕ) (size : ℕ) (made columns : List (List ℕ)) → size ≡ n → made ≡ replicate size []
+    → AreEmptied I made columns → AreEntering n p I 0 columns
+AreEntering-none {n} {p} I size made columns same is emptied = record {
+  long = emptied.count ∙ ap length is ∙ length-replicate size [] ∙ same;
+  columns_are = λ y k m. none y k ∙ sym (and_left (ltb k 0) _ (le-ltb k 0 (omega arith)));
+  others_are = λ y k m. none y k;
+}
+  where
+    empty : (y : ℕ) → get_or made y [] ≡ []
+    empty y = ap (λ rows. get_or rows y []) is ∙ elim (cases_lt y size) [
+      | inl l ↦ get_or-replicate size y [] [] l
+      | inr h ↦ get_or_past (replicate size []) y [] (omega (arith, h, length-replicate size []))
+    ]
+
+    none : (y k : ℕ) → is_member k (get_or columns y []) ≡ false
+    none y k = emptied.members y k ∙ ap (λ row. is_member k row && not (is_member y I)) (empty y)
 
 -- an element outside I enters the columns of its row
 pub AreEntering-entered : {n : ℕ} {p : List ℕ → Bool} (I : List ℕ) (z : ℕ) (columns new : List (List ℕ)) (row : Exchange)

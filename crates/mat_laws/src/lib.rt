@@ -7,7 +7,6 @@
 #![tactic(auto)]
 
 mod bases;
-pub mod columns;
 mod exchange;
 pub mod laws;
 mod loops;

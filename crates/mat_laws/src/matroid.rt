@@ -10,9 +10,8 @@ ghost use Rattle.mat_laws.specs.{
 };
 
 use crate::bases::one_after_another;
-use crate::columns::{empty_columns, enter};
 use crate::exchange::Exchange;
-use mat_sets::ElemSet;
+use mat_sets::{BitRows, ElemSet};
 use std::alloc::{AllocError, Global};
 
 /// A matroid on the elements below its size, by its test of independence (Schrijver, chapter 39).
@@ -247,26 +246,28 @@ pub trait Matroid: Sync + Drop {
         Ok(row.circuit_members())
     }
 
-    /// For each member of an independent set, at its number, the elements outside it that can take its place: all rows, turned
+    /// For each member of an independent set, at its number, the elements outside it that can take its place, as bits: all rows, turned
     /// (Schrijver, chapter 39). A kind may have a body that makes no rows; this one makes one row an element. The only error is want of memory.
     fn columns(
         &self,
         alloc: Global,
         base: &ElemSet,
         kept: &Self::Kept,
-    ) -> Result<Vec<ElemSet>, AllocError>
+    ) -> Result<BitRows, AllocError>
         requires sound { sound self.now }
         requires base { indep self.now base.now ≡ true }
         requires kept { keeps self.now base.now kept.now }
-        ensures { IfOk result (λ columns. AreColumns (ground_size self.now) (indep self.now) base.now columns.items) }
+        ensures { IfOk result (λ columns. AreColumns (ground_size self.now) (indep self.now) base.now columns) }
     {
         self.lawful();
         let size = self.size();
-        let mut columns = empty_columns(alloc, size)?;
+        let members = base.to_bits(alloc)?;
+        let mut columns = BitRows::with_rows(alloc, size, 0)?;
+        columns.empty_each(alloc, base.as_slice(), size)?;
         for z in 0..size {
-            if !base.contains(z) {
+            if !members.contains(z) {
                 let row = self.row(alloc, base, kept, z)?;
-                enter(&mut columns, z, row.with.as_slice())?;
+                columns.insert_each(row.with.as_slice(), z)?;
             }
         }
         Ok(columns)
@@ -349,7 +350,7 @@ impl<M: Matroid> Matroid for &M {
         alloc: Global,
         base: &ElemSet,
         kept: &M::Kept,
-    ) -> Result<Vec<ElemSet>, AllocError> {
+    ) -> Result<BitRows, AllocError> {
         (**self).columns(alloc, base, kept)
     }
 }

@@ -253,16 +253,16 @@ kept_row-added I base columns x column copy at same here leaves =
     ∙ ap (λ b. cond b (exchanged_for (get_or columns x [])) (added I)) test)
 
 -- the row by what is kept is the row of the dual
-pub kept_row_is : {n : ℕ} {p : List ℕ → Bool} → IsMatroid n p → (I base : List ℕ) (columns : List (List ℕ)) (x : ℕ) (row : Exchange)
-    → is_dual n p I ≡ true → IsDualKept n p I base columns → x < n → is_member x I ≡ false → IsRising row.with
-    → row ≡ kept_row I base columns x → row ≡ row_of (is_dual n p) I x
-kept_row_is {n} {p} laws I base columns x row passes kept small out r told = elim (cases_Bool (is_member x base)) [
+pub kept_row_is : {n : ℕ} {p : List ℕ → Bool} → IsMatroid n p → (I marks base : List ℕ) (columns : List (List ℕ)) (x : ℕ) (row : Exchange)
+    → is_dual n p I ≡ true → IsDualKept n p I marks base columns → x < n → is_member x I ≡ false → IsRising row.with
+    → row ≡ kept_row marks base columns x → row ≡ row_of (is_dual n p) I x
+kept_row_is {n} {p} laws I marks base columns x row passes kept small out r told = elim (cases_Bool (is_member x base)) [
   | inr outside ↦
       let e : row ≡ added I =
-      told ∙ ap (λ b. cond (b && eqb (length (minus (get_or columns x []) I)) 0) (exchanged_for (get_or columns x [])) (added I)) outside in
+      at_set ∙ ap (λ b. cond (b && eqb (length (minus (get_or columns x []) I)) 0) (exchanged_for (get_or columns x [])) (added I)) outside in
       dual_row_outside laws base kept.is_base I x passes kept.disjoint small out row outside (ap (λ s. s.addable) e) (ap (λ s. s.with) e)
   | inl here ↦
-      let e = told ∙ ap (λ b. cond (b && eqb (length (minus (get_or columns x []) I)) 0) (exchanged_for (get_or columns x [])) (added I)) here in
+      let e = at_set ∙ ap (λ b. cond (b && eqb (length (minus (get_or columns x []) I)) 0) (exchanged_for (get_or columns x [])) (added I)) here in
       elim (subset_or (get_or columns x []) I) [
         | inl s ↦
             let f = e ∙ ap (λ b. cond b (exchanged_for (get_or columns x [])) (added I)) (inside_test_from (get_or columns x []) I s) in
@@ -276,14 +276,18 @@ kept_row_is {n} {p} laws I base columns x row passes kept small out r told = eli
             (sym (kept.columns_at.columns_are x found.0 here) ∙ found.1) (ap (λ t. t.addable) f) (ap (λ t. t.with) f)
       ]
 ]
+  where
+    at_set : row ≡ kept_row I base columns x
+    at_set = told ∙ ap (λ s. kept_row s base columns x) kept.marked
 
 -- the same of what a call gives, if it gives something
-pub kept_row_told : {n : ℕ} {p : List ℕ → Bool} → IsMatroid n p → (I base : List ℕ) (columns : List (List ℕ)) (x : ℕ) {E : Type 0}
-    → (result : Result Exchange E) → is_dual n p I ≡ true → IsDualKept n p I base columns → x < n → is_member x I ≡ false
+pub kept_row_told : {n : ℕ} {p : List ℕ → Bool} → IsMatroid n p → (I marks base : List ℕ) (columns : List (List ℕ)) (x : ℕ) {E : Type 0}
+    → (result : Result Exchange E) → is_dual n p I ≡ true → IsDualKept n p I marks base columns → x < n → is_member x I ≡ false
     → IfOk result (λ row. IsRising row.with) → IfOk result (λ row. row ≡ kept_row I base columns x)
     → IfOk result (λ row. row ≡ row_of (is_dual n p) I x)
-kept_row_told laws I base columns x (Ok row) passes kept small out r told = kept_row_is laws I base columns x row passes kept small out r told
-kept_row_told laws I base columns x (Err e) passes kept small out r told = tt
+kept_row_told laws I marks base columns x (Ok row) passes kept small out r told =
+    kept_row_is laws I marks base columns x row passes kept small out r (told ∙ ap (λ s. kept_row s base columns x) (sym kept.marked))
+kept_row_told laws I marks base columns x (Err e) passes kept small out r told = tt
 
 -- what is maximal outside X holds no member of X
 pub outside_set : (n : ℕ) (p : List ℕ → Bool) (X B : List ℕ) (x : ℕ) → IsMaximal p (minus (all_below n) X) B → is_member x X ≡ true
@@ -291,17 +295,18 @@ pub outside_set : (n : ℕ) (p : List ℕ → Bool) (X B : List ℕ) (x : ℕ) �
 outside_set n p X B x max m = false_from_ne_true _ (λ k. both_ways _ (minus_parts (all_below n) X x (max.inside.inside x k)).1 m)
 
 -- what is maximal outside an independent set of the dual is a base
-pub kept_is : {n : ℕ} {p : List ℕ → Bool} → IsMatroid n p → (I none outside B : List ℕ) (columns : List (List ℕ))
-    → is_dual n p I ≡ true → none ≡ [] → outside ≡ minus (all_below n) I → IsMaximal p (union none outside) B
-    → AreColumns n p B columns → IsDualKept n p I B columns
-kept_is {n} {p} laws I none outside B columns passes empty o max c = record {
+pub kept_is : {n : ℕ} {p : List ℕ → Bool} → IsMatroid n p → (I none outside B marks base : List ℕ) (columns : List (List ℕ))
+    → is_dual n p I ≡ true → none ≡ [] → outside ≡ minus (all_below n) I → IsMaximal p (union none outside) B → marks ≡ I → base ≡ B
+    → AreColumns n p B columns → IsDualKept n p I marks base columns
+kept_is {n} {p} laws I none outside B marks base columns passes empty o max same at c = subst (λ b. IsDualKept n p I marks b columns) (sym at) (record {
+  marked = same;
   is_base = IsBase-size laws d.base B d.is_base m.passes (IsMaximal-largest laws (minus (all_below n) I) B m d.base d.is_base.passes (record {
     inside = λ y h. minus_from (all_below n) I y ((IsSubset-all_below n d.base (below laws d.base d.is_base.passes)).inside y h)
         (apart_at d.base I d.disjoint y h);
   }));
   disjoint = apart_from B I (λ y h. false_from_ne_true _ (λ i. both_ways _ (outside_set n p I B y m i) h));
   columns_at = c;
-}
+})
   where
     d : IsDualIndependent n p I
     d = dual-gives n p I passes

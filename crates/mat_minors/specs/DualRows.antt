@@ -5,8 +5,9 @@ use Rattle.mat_laws.specs.Columns.{AreColumns}
 use Rattle.mat_laws.specs.declared.exchange.Exchange.{Exchange}
 use Rattle.mat_laws.specs.Matroids.{IsBase}
 
--- a base that is disjoint from I, and what can take the place of each of its members
-pub record IsDualKept (n : ℕ) (independent : List ℕ → Bool) (I base : List ℕ) (columns : List (List ℕ)) : Type 0 where
+-- I itself, a base that is disjoint from it, and what can take the place of each of its members
+pub record IsDualKept (n : ℕ) (independent : List ℕ → Bool) (I set base : List ℕ) (columns : List (List ℕ)) : Type 0 where
+  pub marked : set ≡ I
   pub is_base : IsBase n independent base
   pub disjoint : intersection base I ≡ []
   pub columns_at : AreColumns n independent base columns

@@ -5,7 +5,7 @@ ghost use Rattle.mat_minors.specs.{DualRows.{IsDualKept, kept_row}, Minors.{is_d
 
 use crate::run_orders::others_first;
 use mat_laws::{Exchange, Matroid};
-use mat_sets::ElemSet;
+use mat_sets::{BitRows, BitSet, ElemSet};
 use std::alloc::{AllocError, Global};
 
 /// The dual of a matroid: the sets from which some base is disjoint (Schrijver, chapter 39).
@@ -41,7 +41,7 @@ impl<M: Matroid> Matroid for Dual<M> {
 
     type Kept = DualKept;
 
-    ghost keeps = { λ m set kept. IsDualKept (M.ground_size m.inner) (M.indep m.inner) set kept.base kept.columns.items };
+    ghost keeps = { λ m set kept. IsDualKept (M.ground_size m.inner) (M.indep m.inner) set kept.set kept.base kept.columns };
 
     ghost laws = { λ m h. dual_laws (M.ground_size m.inner) (M.indep m.inner) (M.laws m.inner h) };
 
@@ -76,8 +76,11 @@ impl<M: Matroid> Matroid for Dual<M> {
             .grown_base(alloc, &ElemSet::new(alloc), &outside)?;
         let kept = self.inner.keep(alloc, &other)?;
         let columns = self.inner.columns(alloc, &other, &kept)?;
+        let set = base.to_bits(alloc)?;
+        let marks = other.to_bits(alloc)?;
         Ok(DualKept {
-            base: other,
+            set,
+            base: marks,
             columns,
         })
     }
@@ -96,14 +99,16 @@ impl<M: Matroid> Matroid for Dual<M> {
     }
 }
 
-/// What a dual keeps of an independent set: a base of its matroid that is disjoint from the set, and for each member of that
+/// What a dual keeps of an independent set, as bits: the set, a base of its matroid that is disjoint from the set, and for each member of that
 /// base the elements that can take its place.
 #[derive(Debug, Drop)]
 pub struct DualKept {
+    /// The set.
+    pub set: BitSet,
     /// The base.
-    pub base: ElemSet,
+    pub base: BitSet,
     /// For each element, at its number: what can take its place, if it is in the base.
-    pub columns: Vec<ElemSet>,
+    pub columns: BitRows,
 }
 
 /// The exchanges of x outside an independent set of a dual, from what is kept of the set. The only error is want of memory.
@@ -113,16 +118,17 @@ pub fn dual_row(
     kept: &DualKept,
     x: u32,
 ) -> Result<Exchange, AllocError>
-    requires below { x < length kept.now.columns.items }
-    ensures row { IfOk result (λ e. e ≡ kept_row set.now kept.now.base kept.now.columns.items x) }
+    requires below { x < length kept.now.columns }
+    requires marked { kept.now.set ≡ set.now }
+    ensures row { IfOk result (λ e. e ≡ kept_row set.now kept.now.base kept.now.columns x) }
     ensures rises { IfOk result (λ e. IsRising e.with) }
 {
     if kept.base.contains(x) {
-        let column = &kept.columns[x as usize];
-        if column.is_subset(set) {
+        let column = kept.columns.row(x);
+        if column.is_subset(&kept.set) {
             return Ok(Exchange {
                 addable: false,
-                with: column.copy(alloc)?,
+                with: ElemSet::from_bits(alloc, column)?,
             });
         }
     }
@@ -133,14 +139,13 @@ pub fn dual_row(
 }
 
 /// Whether x, outside an independent set of a dual, can be added, from what is kept of the set. It takes no memory.
-pub fn dual_adds(set: &ElemSet, kept: &DualKept, x: u32) -> bool
-    requires { x < length kept.now.columns.items }
-    ensures told { result ≡ (kept_row set.now kept.now.base kept.now.columns.items x).addable }
-    ensures rises { IsRising set.now → IsRising (kept_row set.now kept.now.base kept.now.columns.items x).with }
+pub fn dual_adds(kept: &DualKept, x: u32) -> bool
+    requires { x < length kept.now.columns }
+    ensures told { result ≡ (kept_row kept.now.set kept.now.base kept.now.columns x).addable }
+    ensures rises { IsRising kept.now.set → IsRising (kept_row kept.now.set kept.now.base kept.now.columns x).with }
 {
     if !kept.base.contains(x) {
         return true;
     }
-    let column = &kept.columns[x as usize];
-    !column.is_subset(set)
+    !kept.columns.row(x).is_subset(&kept.set)
 }

@@ -261,8 +261,8 @@ columns_keep-returns t c =
     let outside = c.in_ok-outside.ensures.members
     ∙ ap (λ E. minus E c.args.set.now) (c.in_ok-all_below.ensures.members ∙ ap all_below c.size_of.ensures) in
     let base = run_maximal_of c.lawful.ensures c.in_ok-outside.outside c.in_ok-base.base (c.in_ok-base.ensures ∙ ap (grown_along p []) c.as_slice.ensures.items) in
-    kept_is c.lawful.ensures c.args.set.now [] _ c.in_ok-base.base c.in_ok-columns.columns.items c.requires.base refl outside
-    base c.in_ok-columns.ensures
+    kept_is c.lawful.ensures c.args.set.now [] _ c.in_ok-base.base c.in_ok-marks.marks c.in_ok-base_marks.base_marks c.in_ok-all.all c.requires.base
+    refl outside base c.in_ok-marks.ensures.members c.in_ok-base_marks.ensures.members c.in_ok-all.ensures
 
 pub greedy_parts-loop-i-init : goal.greedy_parts-loop-i-init
 greedy_parts-loop-i-init t c = taken_none (map test_in c.args.matroids.now) c.args.set.now _ c.in_ok-rest.rest c.new-parts.ensures.items c.in_ok-rest.ensures.equal

@@ -9,7 +9,7 @@ invariant-loop-first l =
       first : l.first < length l.forest.order.items;
       second : l.second < length l.forest.order.items;
       entering : (ends : ℕ → ℕ × ℕ) (X : List ℕ) → IsTree ends X l.forest.order.items l.forest.through.items l.forest.before.items
-          → IsEntering ends X l.forest.order.items l.from l.to l.first l.second l.edge l.fn.columns.items l.columns.items;
+          → IsEntering ends X l.forest.order.items l.from l.to l.first l.second l.edge l.fn.columns l.columns;
     }
 
 abbrev pub decreases-loop-first : goal.decreases-loop-first

@@ -1,6 +1,5 @@
-use Rattle.std.proofs.Common.{[], not, inl, inr, refl, sym, ap, subst, ◌∙◌}
+use Rattle.std.proofs.Common.{not, inl, inr, refl, sym, ap, subst, ◌∙◌}
 use Rattle.std.proofs.lemmas.Bool.{both_ways, cases_Bool}
-use Rattle.std.proofs.lemmas.List.{get_or_default}
 use Rattle.mat_sets.specs.Sets.{IsRising}
 use Rattle.mat_laws.specs.declared.exchange.Exchange.{Exchange}
 use Rattle.mat_minors.proofs.DualExchanges.{kept_row-added, kept_row-exchanged, kept_row-outside}
@@ -10,38 +9,38 @@ pub returns-then-not-contains-clause-told : goal.returns-then-not-contains-claus
 returns-then-not-contains-clause-told c =
     let kept = c.args.kept.now in
     ap (λ (e : Exchange). e.addable)
-    (kept_row-outside c.args.set.now kept.base kept.columns.items c.args.x c.args.set.now refl (sym c.contains.ensures.found ∙ c.if-not-contains.true))
+    (kept_row-outside kept.set kept.base kept.columns c.args.x kept.set refl (sym c.contains.ensures ∙ c.if-not-contains.true))
 
 pub returns-then-not-contains-clause-rises : goal.returns-then-not-contains-clause-rises
 returns-then-not-contains-clause-rises c =
     let kept = c.args.kept.now in
     subst (λ (e : Exchange). IsRising e.with)
-    (kept_row-outside c.args.set.now kept.base kept.columns.items c.args.x c.args.set.now refl (sym c.contains.ensures.found ∙ c.if-not-contains.true))
+    (kept_row-outside kept.set kept.base kept.columns c.args.x kept.set refl (sym c.contains.ensures ∙ c.if-not-contains.true))
 
 pub returns-clause-told : goal.returns-clause-told
 returns-clause-told c =
     let kept = c.args.kept.now in
-    let set = c.args.set.now in
-    let column = c.index-column.result.now in
-    let at = c.index-column.ensures ∙ get_or_default kept.columns.items c.args.x column [] c.requires in
-    let here = sym c.contains.ensures.found ∙ c.if-not-contains.false in
+    let set = kept.set in
+    let column = c.row.result.now in
+    let at = c.row.ensures in
+    let here = sym c.contains.ensures ∙ c.if-not-contains.false in
     elim (cases_Bool c.is_subset.result) [
       | inl inside ↦ ap not inside ∙ ap (λ (e : Exchange). e.addable)
-          (kept_row-exchanged set kept.base kept.columns.items c.args.x column column at refl here (c.is_subset.ensures.inside.0 inside))
+          (kept_row-exchanged set kept.base kept.columns c.args.x column column at refl here (c.is_subset.ensures.inside.0 inside))
       | inr leaves ↦ ap not leaves ∙ ap (λ (e : Exchange). e.addable)
-          (kept_row-added set kept.base kept.columns.items c.args.x column set at refl here (λ i. both_ways _ leaves (c.is_subset.ensures.inside.1 i)))
+          (kept_row-added set kept.base kept.columns c.args.x column set at refl here (λ i. both_ways _ leaves (c.is_subset.ensures.inside.1 i)))
     ]
 
 pub returns-clause-rises : goal.returns-clause-rises
 returns-clause-rises c = λ rising.
     let kept = c.args.kept.now in
-    let set = c.args.set.now in
-    let column = c.index-column.result.now in
-    let at = c.index-column.ensures ∙ get_or_default kept.columns.items c.args.x column [] c.requires in
-    let here = sym c.contains.ensures.found ∙ c.if-not-contains.false in
+    let set = kept.set in
+    let column = c.row.result.now in
+    let at = c.row.ensures in
+    let here = sym c.contains.ensures ∙ c.if-not-contains.false in
     elim (cases_Bool c.is_subset.result) [
       | inl inside ↦ subst (λ (e : Exchange). IsRising e.with)
-          (kept_row-exchanged set kept.base kept.columns.items c.args.x column column at refl here (c.is_subset.ensures.inside.0 inside)) c.is_subset.ensures.rises
+          (kept_row-exchanged set kept.base kept.columns c.args.x column column at refl here (c.is_subset.ensures.inside.0 inside)) c.is_subset.ensures.rises
       | inr leaves ↦ subst (λ (e : Exchange). IsRising e.with)
-          (kept_row-added set kept.base kept.columns.items c.args.x column set at refl here (λ i. both_ways _ leaves (c.is_subset.ensures.inside.1 i))) rising
+          (kept_row-added set kept.base kept.columns c.args.x column set at refl here (λ i. both_ways _ leaves (c.is_subset.ensures.inside.1 i))) rising
     ]

@@ -28,8 +28,8 @@ returns-then-joined c =
     let told = rw (c.if-joined.true, c.get-first.ensures) at (c.in_ok-joined.ensures (ends_of edges) c.args.base.now c.requires.kept.tree) in
     trail_entered (length edges) (ends_of edges) c.args.base.now c.args.x c.requires.below c.requires.base c.requires.outside _ _ told
 
-pub enter-requires : goal.enter-requires
-enter-requires c =
+pub insert_each-requires : goal.insert_each-requires
+insert_each-requires c =
     let edges = c.args.self.now.edges in
     let base = c.args.base.now in
     let told = c.in_ok-joined.ensures (ends_of edges) base c.requires.kept.tree in
@@ -40,5 +40,5 @@ pub returns : goal.returns
 returns c =
     let edges = c.args.self.now.edges in
     let told = rw (c.if-joined.false, c.get-first.ensures) at (c.in_ok-joined.ensures (ends_of edges) c.args.base.now c.requires.kept.tree) in
-    on_ok_weaker c.enter.result (λ entered. all_entered (length edges) (ends_of edges) c.args.base.now c.args.x c.requires.below c.requires.base
-    c.requires.outside _ _ _ _ told c.as_slice.ensures.items entered) c.enter.ensures
+    on_ok_weaker c.insert_each.result (λ entered. all_entered (length edges) (ends_of edges) c.args.base.now c.args.x c.requires.below c.requires.base
+    c.requires.outside _ _ _ _ told c.as_slice.ensures.items entered) c.insert_each.ensures

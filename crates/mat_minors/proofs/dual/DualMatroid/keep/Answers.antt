@@ -15,5 +15,5 @@ pub returns : goal.returns
 returns g c =
     let outside = c.in_ok-outside.ensures.members
     ∙ ap (λ E. minus E c.args.base.now) (c.in_ok-all_below.ensures.members ∙ ap all_below c.size.ensures) in
-    kept_is c.lawful.ensures c.args.base.now _ _ c.in_ok-other.other c.in_ok-columns.columns.items c.requires.base c.new.ensures.members outside
-    c.in_ok-other.ensures.maximal c.in_ok-columns.ensures
+    kept_is c.lawful.ensures c.args.base.now _ _ c.in_ok-other.other c.in_ok-set.set c.in_ok-marks.marks c.in_ok-columns.columns c.requires.base
+    c.new.ensures.members outside c.in_ok-other.ensures.maximal c.in_ok-set.ensures.members c.in_ok-marks.ensures.members c.in_ok-columns.ensures
