@@ -38,7 +38,7 @@ AreEntering-none {n} {p} I size made columns same is emptied = record {
     empty : (y : ℕ) → get_or made y [] ≡ []
     empty y = ap (λ rows. get_or rows y []) is ∙ elim (cases_lt y size) [
       | inl l ↦ get_or-replicate size y [] [] l
-      | inr h ↦ get_or_past (replicate size []) y [] (omega (arith, h, length-replicate size []))
+      | inr h ↦ get_or_past (replicate size []) y [] (omega (arith, h, length-replicate {A = List ℕ} size []))
     ]
 
     none : (y k : ℕ) → is_member k (get_or columns y []) ≡ false

@@ -20,7 +20,7 @@ loop-z-init g c =
 pub insert_each-requires : goal.insert_each-requires
 insert_each-requires g c =
     let out = ap (is_member c.loop-z.z) (sym c.in_ok-members.ensures.members) ∙ sym c.contains.ensures ∙ c.if-not-contains.true in
-    rw (c.as_slice-in-loop-z.ensures.items, c.loop-z.invariant.long)
+    rw (c.as_slice-then-not-contains.ensures.items, c.loop-z.invariant.long)
     (row_below c.lawful.ensures c.args.base.now c.loop-z.z c.in_ok-row.row c.requires.base out c.in_ok-row.ensures.row)
 
 pub loop-z-preserved : goal.loop-z-preserved
@@ -29,8 +29,8 @@ loop-z-preserved g c = elim c.if-not-contains.branch [
       let out = ap (is_member c.loop-z.z) (sym c.in_ok-members.ensures.members) ∙ sym c.contains.ensures ∙ w.if-not-contains.true in
       let small : c.loop-z.z < g.Self.Matroid.ground_size c.args.self.now =
       omega (arith, c.size-size.ensures, c.loop-z.auto.z-end, c.loop-z-test.true) in
-      rw w.columns-is (AreEntering-entered c.args.base.now c.loop-z.z c.loop-z.columns _ w.in_ok-row.row w.as_slice-in-loop-z.result.now
-      c.lawful.ensures c.requires.base small out w.in_ok-row.ensures.row w.as_slice-in-loop-z.ensures.items
+      rw w.columns-is (AreEntering-entered c.args.base.now c.loop-z.z c.loop-z.columns _ w.in_ok-row.row w.as_slice-then-not-contains.result.now
+      c.lawful.ensures c.requires.base small out w.in_ok-row.ensures.row w.as_slice-then-not-contains.ensures.items
       w.in_ok-insert_each.ensures.count (λ y k m. w.in_ok-insert_each.ensures.members k y m) c.loop-z.invariant)
   | else-not-contains w ↦
       rw w.columns-is (AreEntering-passed _ _ c.args.base.now c.loop-z.z c.loop-z.columns
