@@ -1,0 +1,10 @@
+use Rattle.std.proofs.Common.{◌&&◌, not, ltb, ap, ◌∙◌}
+use Rattle.mat_sets.specs.Sets.{is_member}
+use Rattle.mat_sets.proofs.Ground.{is_member-all_below}
+use Rattle.mat_any.proofs.columns_at.bits_outside.Goals as goal
+
+pub returns : goal.returns
+returns c = λ x.
+    c.remove_all.ensures x
+    ∙ ap (λ b. b && not (is_member x c.in_ok-gone.gone)) (ap (is_member x) c.in_ok-outside.ensures ∙ is_member-all_below x c.args.n)
+    ∙ ap (λ gone. ltb x c.args.n && not (is_member x gone)) c.in_ok-gone.ensures.members
