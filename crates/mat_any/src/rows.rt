@@ -374,21 +374,21 @@ fn no_exchange(alloc: Global) -> Exchange
 fn dual_row_within(
     alloc: Global,
     inner: &AnyMatroid,
-    base: &ElemSet,
+    _base: &ElemSet,
     kept: &DualKept,
     x: u32,
 ) -> Result<Exchange, AllocError>
     requires sound { IsSound (tree_of inner.now) }
-    requires base { is_dual (element_count (tree_of inner.now)) (is_independent (tree_of inner.now)) base.now ≡ true }
-    requires kept { IsDualKept (element_count (tree_of inner.now)) (is_independent (tree_of inner.now)) base.now
+    requires base { is_dual (element_count (tree_of inner.now)) (is_independent (tree_of inner.now)) _base.now ≡ true }
+    requires kept { IsDualKept (element_count (tree_of inner.now)) (is_independent (tree_of inner.now)) _base.now
         kept.now.set kept.now.base kept.now.columns }
     requires below { x < element_count (tree_of inner.now) }
-    requires outside { is_member x base.now ≡ false }
-    ensures row { IfOk result (λ e. e ≡ row_of (is_dual (element_count (tree_of inner.now)) (is_independent (tree_of inner.now))) base.now x) }
+    requires outside { is_member x _base.now ≡ false }
+    ensures row { IfOk result (λ e. e ≡ row_of (is_dual (element_count (tree_of inner.now)) (is_independent (tree_of inner.now))) _base.now x) }
     ensures rises { IfOk result (λ e. IsRising e.with) }
 {
     inner.lawful();
-    dual_row(alloc, base, kept, x)
+    dual_row(alloc, kept, x)
 }
 
 // The exchanges in the dual of a dual: those of the matroid within both.

@@ -283,10 +283,10 @@ kept_row_is {n} {p} laws I marks base columns x row passes kept small out r told
 -- the same of what a call gives, if it gives something
 pub kept_row_told : {n : ℕ} {p : List ℕ → Bool} → IsMatroid n p → (I marks base : List ℕ) (columns : List (List ℕ)) (x : ℕ) {E : Type 0}
     → (result : Result Exchange E) → is_dual n p I ≡ true → IsDualKept n p I marks base columns → x < n → is_member x I ≡ false
-    → IfOk result (λ row. IsRising row.with) → IfOk result (λ row. row ≡ kept_row I base columns x)
+    → IfOk result (λ row. IsRising row.with) → IfOk result (λ row. row ≡ kept_row marks base columns x)
     → IfOk result (λ row. row ≡ row_of (is_dual n p) I x)
 kept_row_told laws I marks base columns x (Ok row) passes kept small out r told =
-    kept_row_is laws I marks base columns x row passes kept small out r (told ∙ ap (λ s. kept_row s base columns x) (sym kept.marked))
+    kept_row_is laws I marks base columns x row passes kept small out r told
 kept_row_told laws I marks base columns x (Err e) passes kept small out r told = tt
 
 -- what is maximal outside X holds no member of X

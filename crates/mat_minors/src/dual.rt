@@ -89,13 +89,12 @@ impl<M: Matroid> Matroid for Dual<M> {
     fn row(
         &self,
         alloc: Global,
-        base: &ElemSet,
+        _base: &ElemSet,
         kept: &DualKept,
         x: u32,
     ) -> Result<Exchange, AllocError> {
         self.inner.lawful();
-        base.rises();
-        dual_row(alloc, base, kept, x)
+        dual_row(alloc, kept, x)
     }
 }
 
@@ -112,15 +111,9 @@ pub struct DualKept {
 }
 
 /// The exchanges of x outside an independent set of a dual, from what is kept of the set. The only error is want of memory.
-pub fn dual_row(
-    alloc: Global,
-    set: &ElemSet,
-    kept: &DualKept,
-    x: u32,
-) -> Result<Exchange, AllocError>
-    requires below { x < length kept.now.columns }
-    requires marked { kept.now.set ≡ set.now }
-    ensures row { IfOk result (λ e. e ≡ kept_row set.now kept.now.base kept.now.columns x) }
+pub fn dual_row(alloc: Global, kept: &DualKept, x: u32) -> Result<Exchange, AllocError>
+    requires { x < length kept.now.columns }
+    ensures row { IfOk result (λ e. e ≡ kept_row kept.now.set kept.now.base kept.now.columns x) }
     ensures rises { IfOk result (λ e. IsRising e.with) }
 {
     if kept.base.contains(x) {
@@ -134,7 +127,7 @@ pub fn dual_row(
     }
     Ok(Exchange {
         addable: true,
-        with: set.copy(alloc)?,
+        with: ElemSet::from_bits(alloc, &kept.set)?,
     })
 }
 

@@ -3,5 +3,5 @@ use Rattle.mat_minors.proofs.dual.DualMatroid.row.Goals as goal
 
 pub returns-clause-row : goal.returns-clause-row
 returns-clause-row g c =
-    kept_row_told c.lawful.ensures c.args.base.now c.args.kept.now.set c.args.kept.now.base c.args.kept.now.columns c.args.x c.dual_row.result
+    kept_row_told c.lawful.ensures c.args._base.now c.args.kept.now.set c.args.kept.now.base c.args.kept.now.columns c.args.x c.dual_row.result
     c.requires.base c.requires.kept c.requires.below c.requires.outside c.dual_row.ensures.rises c.dual_row.ensures.row
