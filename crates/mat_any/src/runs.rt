@@ -19,7 +19,7 @@ use crate::columns_at::columns;
 use crate::rows::place_for;
 use crate::sizes::{common_size_of, size_of};
 use mat_laws::Matroid;
-use mat_minors::{DualKept, first_taken, items_in, members_first, others_first};
+use mat_minors::{DualKept, first_taken, items_in, members_first, others_first, same_base};
 use mat_sets::{BitSet, ElemSet, SetList};
 use mat_union::{
     Growth, Move, PlaceSearch, first_parts, is_entered_or_left, mark_spanned, members_of,
@@ -335,8 +335,9 @@ pub(crate) fn keep(
     }
 }
 
-/// What is kept of another independent set, where something is kept of this one. A graphic or transversal matroid and a gammoid make it from that, and a
-/// truncation, a restriction or the dual of a dual asks the matroid within it; each other kind makes it anew. The only error is want of memory.
+/// What is kept of another independent set, where something is kept of this one. A graphic or transversal matroid, a gammoid and a dual make it from
+/// that, and a truncation, a restriction or the dual of a dual asks the matroid within it; each other kind makes it anew. The only error is want of
+/// memory.
 #[cycle(running)]
 pub(crate) fn keep_next(
     alloc: Global,
@@ -364,6 +365,7 @@ pub(crate) fn keep_next(
         (AnyMatroid::Dual(inner), AnyKept::DualOfDual(within)) => {
             dual_of_dual_next(alloc, inner, base, within, next)
         }
+        (AnyMatroid::Dual(inner), AnyKept::Dual(held)) => dual_next(alloc, inner, base, held, next),
         (AnyMatroid::Truncate { inner, .. }, _) => keep_next(alloc, inner, base, kept, next),
         (AnyMatroid::Restrict { inner, .. }, _) => keep_next(alloc, inner, base, kept, next),
         _ => keep(alloc, matroid, next),
@@ -380,6 +382,27 @@ fn dual_keep(alloc: Global, inner: &AnyMatroid, set: &ElemSet) -> Result<AnyKept
     match inner {
         AnyMatroid::Dual(within) => kept_within(alloc, keep(alloc, within, set)?),
         _ => Ok(AnyKept::Dual(columns_keep(alloc, inner, set)?)),
+    }
+}
+
+// What a dual keeps of another set: the same base with its columns, where it is disjoint from that set, and else what is made anew.
+#[cycle(running)]
+fn dual_next(
+    alloc: Global,
+    inner: &AnyMatroid,
+    _base: &ElemSet,
+    kept: &DualKept,
+    next: &ElemSet,
+) -> Result<AnyKept, AllocError>
+    requires sound { IsSound (tree_of inner.now) }
+    requires kept { IsDualKept (element_count (tree_of inner.now)) (is_independent (tree_of inner.now)) _base.now
+        kept.now.set kept.now.base kept.now.columns }
+    requires next { is_dual (element_count (tree_of inner.now)) (is_independent (tree_of inner.now)) next.now ≡ true }
+    ensures { IfOk result (λ k. KeepsAny (dual (tree_of inner.now)) next.now k) }
+{
+    match same_base(alloc, kept, next)? {
+        Some(same) => Ok(AnyKept::Dual(same)),
+        None => dual_keep(alloc, inner, next),
     }
 }
 

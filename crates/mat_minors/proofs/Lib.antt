@@ -5,5 +5,6 @@ pub mod DualGreedy
 pub mod DualOfDual
 pub mod GreedyReversed
 pub mod DualExchanges
+pub mod DualNext
 pub mod MinorRuns
 pub mod RunOrders

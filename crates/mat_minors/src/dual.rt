@@ -1,7 +1,7 @@
 //! Duals.
 ghost use Rattle.std.specs.Prelude.{◌≡◌, ◌<◌, length, IfOk};
 ghost use Rattle.mat_sets.specs.Sets.{IsRising};
-ghost use Rattle.mat_minors.specs.{DualRows.{IsDualKept, kept_row}, Minors.{is_dual}, MinorLaws.{dual_laws}};
+ghost use Rattle.mat_minors.specs.{DualRows.{IsDualKept, at_same_base, kept_row}, Minors.{is_dual}, MinorLaws.{dual_laws}};
 
 use crate::run_orders::others_first;
 use mat_laws::{Exchange, Matroid};
@@ -85,6 +85,21 @@ impl<M: Matroid> Matroid for Dual<M> {
         })
     }
 
+    /// The same base and columns, where the base is disjoint from the next set: a copy of them; else both are made anew. The only error is
+    /// want of memory.
+    fn keep_next(
+        &self,
+        alloc: Global,
+        _base: &ElemSet,
+        kept: &DualKept,
+        next: &ElemSet,
+    ) -> Result<DualKept, AllocError> {
+        match same_base(alloc, kept, next)? {
+            Some(same) => Ok(same),
+            None => self.keep(alloc, next),
+        }
+    }
+
     /// A look into the column of x, and a copy of the answer. The only error is want of memory.
     fn row(
         &self,
@@ -108,6 +123,26 @@ pub struct DualKept {
     pub base: BitSet,
     /// For each element, at its number: what can take its place, if it is in the base.
     pub columns: BitRows,
+}
+
+/// What is kept of another set where the base is disjoint from it: the same base, with its columns. None where the base meets it. The time is that
+/// of a copy of the columns. The only error is want of memory.
+pub fn same_base(
+    alloc: Global,
+    kept: &DualKept,
+    next: &ElemSet,
+) -> Result<Option<DualKept>, AllocError>
+    ensures { IfOk result (λ found. found ≡ at_same_base kept.now next.now) }
+{
+    let set = next.to_bits(alloc)?;
+    if kept.base.next_common(&set, 0).is_some() {
+        return Ok(None);
+    }
+    Ok(Some(DualKept {
+        set,
+        base: kept.base.copy(alloc)?,
+        columns: kept.columns.copy(alloc)?,
+    }))
 }
 
 /// The exchanges of x outside an independent set of a dual, from what is kept of the set. The only error is want of memory.

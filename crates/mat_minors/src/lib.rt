@@ -15,5 +15,5 @@ pub use restriction::Restriction;
 pub use truncation::Truncation;
 
 // Steps of runs and rows, for a crate whose matroids are a tree of kinds.
-pub use dual::{dual_adds, dual_row};
+pub use dual::{dual_adds, dual_row, same_base};
 pub use run_orders::{first_taken, items_in, members_first, others_first};

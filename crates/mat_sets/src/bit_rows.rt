@@ -93,6 +93,17 @@ impl BitRows {
         Ok(())
     }
 
+    /// Other rows of the same members. The time is that of the words. The only error is want of memory.
+    pub fn copy(&self, alloc: Global) -> Result<BitRows, AllocError>
+        ensures { IfOk result (λ r. r ≡ self.now) }
+    {
+        let mut rows = Vec::with_capacity(alloc, self.rows.len())?;
+        for at in 0..self.rows.len() {
+            rows.push(self.rows[at].copy(alloc)?)?;
+        }
+        Ok(BitRows { rows })
+    }
+
     /// Takes the members of a set out of each row. It takes no memory.
     pub fn remove_from_each(&mut self, gone: &BitSet)
         ensures { AreRemoved gone.now self.old self.new }

@@ -16,6 +16,7 @@ use Rattle.mat_laws.proofs.GreedyRunSets.{run_maximal_of}
 use Rattle.mat_laws.proofs.GreedyRunSteps.{IsRunning-end}
 use Rattle.mat_minors.specs.ContractionLaws.{IsJoined-gives}
 use Rattle.mat_minors.proofs.DualExchanges.{kept_is}
+use Rattle.mat_minors.proofs.DualNext.{kept_of_next}
 use Rattle.mat_minors.specs.Minors.{is_contracted, is_dual, is_restricted, is_truncated}
 use Rattle.mat_minors.specs.MinorLaws.{contracted_laws, restricted_laws}
 use Rattle.mat_minors.proofs.GreedyReversed.{dual_greedy_of}
@@ -68,6 +69,10 @@ dual_keep-keep-requires t c =
     let node = ap tree_of c.in-Dual.is ∙ ap (λ m. dual (tree_of m)) (sym c.deref.ensures) in
     let test = test_within _ _ node c.requires.sound in
     (search (rules, the_lemmas), (sound_within _ _ node c.requires.sound, ap (λ p. p c.args.set.now) (sym test) ∙ c.requires.base))
+
+pub dual_next-returns-in-Some : goal.dual_next-returns-in-Some
+dual_next-returns-in-Some t c =
+    kept_of_next c.args._base.now c.args.next.now c.args.kept.now c.in_Some.same c.requires.kept c.in_ok-same_base.ensures
 
 pub dual_of_dual_next-keep_next-requires : goal.dual_of_dual_next-keep_next-requires
 dual_of_dual_next-keep_next-requires t c =

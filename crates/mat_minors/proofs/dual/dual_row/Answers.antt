@@ -15,8 +15,8 @@ returns-clause-row c =
     let kept = c.args.kept.now in
     elim c.if-contains.branch [
       | then-contains+else-is_subset w ↦
-          kept_row-added kept.set kept.base kept.columns c.args.x w.row-column.result.now _ w.row-column.ensures c.in_ok-from_bits.ensures.members
+          kept_row-added kept.set kept.base kept.columns c.args.x w.row-column.result.now _ w.row-column.ensures c.in_ok-from_bits-2.ensures.members
           (sym c.contains.ensures ∙ w.if-contains.true) (λ inside. both_ways _ w.if-is_subset.false (w.is_subset.ensures.inside.1 inside))
-      | else-contains w ↦ kept_row-outside kept.set kept.base kept.columns c.args.x _ c.in_ok-from_bits.ensures.members
+      | else-contains w ↦ kept_row-outside kept.set kept.base kept.columns c.args.x _ c.in_ok-from_bits-2.ensures.members
           (sym c.contains.ensures ∙ w.if-contains.false)
     ]
