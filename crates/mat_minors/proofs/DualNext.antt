@@ -32,13 +32,13 @@ base_meets kept J bits found told same some =
     ∙ ap (λ b. cond b (Some (at_base kept J)) None) (apart_told kept.base bits found told ∙ ap not some))
 
 -- and one that is disjoint from it does, with the same columns
-pub base_serves : (kept next : DualKept) (J : List ℕ) (found : Option ℕ)
-    → IsNextFrom (λ x. is_member x kept.base && is_member x next.set) 0 found → next.set ≡ J → next.base ≡ kept.base
+pub base_serves : (kept next : DualKept) (J bits : List ℕ) (found : Option ℕ)
+    → IsNextFrom (λ x. is_member x kept.base && is_member x bits) 0 found → bits ≡ J → next.set ≡ J → next.base ≡ kept.base
     → next.columns ≡ kept.columns → is_some found ≡ false → Some next ≡ at_same_base kept J
-base_serves kept next J found told same base columns none =
-    (λ i. Some (record { set = same i; base = base i; columns = columns i }))
+base_serves kept next J bits found told same set base columns none =
+    (λ i. Some (record { set = set i; base = base i; columns = columns i }))
     ∙ sym (ap (λ s. cond (eqb (length (intersection kept.base s)) 0) (Some (at_base kept J)) None) (sym same)
-    ∙ ap (λ b. cond b (Some (at_base kept J)) None) (apart_told kept.base next.set found told ∙ ap not none))
+    ∙ ap (λ b. cond b (Some (at_base kept J)) None) (apart_told kept.base bits found told ∙ ap not none))
 
 -- what is kept at the same base is right for the next set
 pub kept_of_next : {n : ℕ} {p : List ℕ → Bool} (I J : List ℕ) (kept next : DualKept) → IsDualKept n p I kept.set kept.base kept.columns

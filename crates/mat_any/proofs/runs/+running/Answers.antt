@@ -72,7 +72,7 @@ dual_keep-keep-requires t c =
 
 pub dual_next-returns-in-Some : goal.dual_next-returns-in-Some
 dual_next-returns-in-Some t c =
-    kept_of_next c.args._base.now c.args.next.now c.args.kept.now c.in_Some.same c.requires.kept c.in_ok-same_base.ensures
+    kept_of_next c.args._base.now c.args.next.now c.args.kept.now _ c.requires.kept (sym c.in-Some.is ∙ c.in_ok-same.ensures)
 
 pub dual_of_dual_next-keep_next-requires : goal.dual_of_dual_next-keep_next-requires
 dual_of_dual_next-keep_next-requires t c =

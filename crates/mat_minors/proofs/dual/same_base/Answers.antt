@@ -9,5 +9,5 @@ returns-then-is_some c =
 
 pub returns : goal.returns
 returns c =
-    base_serves c.args.kept.now _ c.args.next.now c.next_common.result c.next_common.ensures c.in_ok-set.ensures.members c.in_ok-copy.ensures
-    c.in_ok-copy-2.ensures (sym c.is_some.ensures ∙ c.if-is_some.false)
+    base_serves c.args.kept.now _ c.args.next.now c.in_ok-set.set c.next_common.result c.next_common.ensures c.in_ok-set.ensures.members
+    (c.set.view_is ∙ c.in_ok-set.ensures.members) c.in_ok-copy.ensures c.in_ok-copy-2.ensures (sym c.is_some.ensures ∙ c.if-is_some.false)
