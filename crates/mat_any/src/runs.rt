@@ -385,7 +385,7 @@ fn dual_keep(alloc: Global, inner: &AnyMatroid, set: &ElemSet) -> Result<AnyKept
     }
 }
 
-// What a dual keeps of another set: the same base with its columns, where it is disjoint from that set, and else what is made anew.
+// What a dual keeps of another set: the same base with its columns, if it is disjoint from that set, and else what is made anew.
 #[cycle(running)]
 fn dual_next(
     alloc: Global,

@@ -14,7 +14,7 @@ use Rattle.mat_minors.specs.DualRows.{IsDualKept, at_same_base}
 abbrev at_base : DualKept → List ℕ → DualKept
 at_base kept J = record { set = J; base = kept.base; columns = kept.columns }
 
--- two sets are disjoint where no shared member is found
+-- two sets are disjoint exactly if no shared member is found
 apart_told : (B J : List ℕ) (found : Option ℕ) → IsNextFrom (λ x. is_member x B && is_member x J) 0 found
     → eqb (length (intersection B J)) 0 ≡ not (is_some found)
 apart_told B J None none =

@@ -85,8 +85,7 @@ impl<M: Matroid> Matroid for Dual<M> {
         })
     }
 
-    /// The same base and columns, where the base is disjoint from the next set: a copy of them; else both are made anew. The only error is
-    /// want of memory.
+    /// If the base is disjoint from the next set, a copy of it and of its columns; else both are made anew. The only error is want of memory.
     fn keep_next(
         &self,
         alloc: Global,
@@ -113,8 +112,8 @@ impl<M: Matroid> Matroid for Dual<M> {
     }
 }
 
-/// What a dual keeps of an independent set, as bits: the set, a base of its matroid that is disjoint from the set, and for each member of that
-/// base the elements that can take its place.
+/// What a dual keeps of an independent set, as bits: the set, a base of its matroid that is disjoint from the set, and for each member of that base
+/// the elements that can take its place.
 #[derive(Debug, Drop)]
 pub struct DualKept {
     /// The set.
@@ -125,8 +124,8 @@ pub struct DualKept {
     pub columns: BitRows,
 }
 
-/// What is kept of another set where the base is disjoint from it: the same base, with its columns. None where the base meets it. The time is that
-/// of a copy of the columns. The only error is want of memory.
+/// What is kept of another set at the same base, if the base is disjoint from it; else None. The time is that of a copy of the columns. The only
+/// error is want of memory.
 pub fn same_base(
     alloc: Global,
     kept: &DualKept,
