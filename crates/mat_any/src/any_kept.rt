@@ -42,3 +42,10 @@ pub enum AnyKept {
         kept: Vec<AnyKept>,
     },
 }
+
+/// An independent set of a matroid of any kind, and what is kept of it.
+#[derive(Debug, Drop)]
+pub(crate) struct KeptSet {
+    pub(crate) set: ElemSet,
+    pub(crate) kept: AnyKept,
+}

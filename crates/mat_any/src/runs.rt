@@ -14,7 +14,7 @@ ghost use Rattle.mat_any.specs.{
 };
 
 use crate::any::AnyMatroid;
-use crate::any_kept::AnyKept;
+use crate::any_kept::{AnyKept, KeptSet};
 use crate::columns_at::columns;
 use crate::rows::place_for;
 use crate::sizes::{common_size_of, size_of};
@@ -305,8 +305,8 @@ fn keep_each(
 }
 
 /// What is kept of an independent set. A truncation or a restriction keeps what the matroid within it keeps; the dual of a dual what the
-/// matroid within both keeps, and another dual makes one run of its matroid, and asks it for the columns at the base that the run gives; a
-/// contraction makes one run; a union makes parts of the set. The only error is want of memory.
+/// matroid within both keeps, and another dual asks its matroid for a base and for the columns at it; a contraction makes one run; a union makes
+/// parts of the set. The only error is want of memory.
 #[cycle(running)]
 pub(crate) fn keep(
     alloc: Global,
@@ -429,7 +429,7 @@ fn dual_of_dual_next(
     }
 }
 
-// A base that is disjoint from the set, by one run, and the exchanges at it, column by column.
+// A base that is disjoint from the set, and the exchanges at it, column by column.
 #[cycle(running)]
 fn columns_keep(alloc: Global, inner: &AnyMatroid, set: &ElemSet) -> Result<DualKept, AllocError>
     requires sound { IsSound (tree_of inner.now) }
@@ -438,16 +438,61 @@ fn columns_keep(alloc: Global, inner: &AnyMatroid, set: &ElemSet) -> Result<Dual
 {
     inner.lawful();
     let outside = ElemSet::all_below(alloc, size_of(inner))?.minus(alloc, set)?;
-    let base = run(alloc, inner, outside.as_slice())?;
-    let kept = keep(alloc, inner, &base)?;
-    let all = columns(alloc, inner, &base, &kept)?;
+    let base = base_keep(alloc, inner, &outside)?;
+    let all = columns(alloc, inner, &base.set, &base.kept)?;
     let marks = set.to_bits(alloc)?;
-    let base_marks = base.to_bits(alloc)?;
+    let base_marks = base.set.to_bits(alloc)?;
     Ok(DualKept {
         set: marks,
         base: base_marks,
         columns: all,
     })
+}
+
+// A maximal independent subset of a set, and what is kept of it: parts of a union tell both, and another matroid makes one run.
+#[cycle(running)]
+fn base_keep(alloc: Global, matroid: &AnyMatroid, within: &ElemSet) -> Result<KeptSet, AllocError>
+    requires sound { IsSound (tree_of matroid.now) }
+    requires below { AllBelow (element_count (tree_of matroid.now)) within.now }
+    ensures maximal { IfOk result (λ k. IsMaximal (is_independent (tree_of matroid.now)) within.now k.set) }
+    ensures kept { IfOk result (λ k. KeepsAny (tree_of matroid.now) k.set k.kept) }
+{
+    match matroid {
+        AnyMatroid::Union { parts } => union_base(alloc, parts, within),
+        _ => run_base(alloc, matroid, within),
+    }
+}
+
+// What a run through a set takes, and what is kept of it.
+#[cycle(running)]
+fn run_base(alloc: Global, matroid: &AnyMatroid, within: &ElemSet) -> Result<KeptSet, AllocError>
+    requires sound { IsSound (tree_of matroid.now) }
+    requires below { AllBelow (element_count (tree_of matroid.now)) within.now }
+    ensures maximal { IfOk result (λ k. IsMaximal (is_independent (tree_of matroid.now)) within.now k.set) }
+    ensures kept { IfOk result (λ k. KeepsAny (tree_of matroid.now) k.set k.kept) }
+{
+    matroid.lawful();
+    let set = run(alloc, matroid, within.as_slice())?;
+    let kept = keep(alloc, matroid, &set)?;
+    Ok(KeptSet { set, kept })
+}
+
+// A maximal independent subset of a set in a union, and what is kept of it.
+#[cycle(running)]
+fn union_base(
+    alloc: Global,
+    matroids: &[AnyMatroid],
+    within: &ElemSet,
+) -> Result<KeptSet, AllocError>
+    requires joined { AreJoined elements_in IsSoundOne matroids.now }
+    requires below { AllBelow (size_in matroids.now) within.now }
+    ensures maximal { IfOk result (λ k. IsMaximal (union_in matroids.now) within.now k.set) }
+    ensures kept { IfOk result (λ k. KeepsUnion matroids.now k.set k.kept) }
+{
+    let growth = filled_parts(alloc, matroids, within)?;
+    let set = members_of(alloc, growth.parts.as_slice())?;
+    let kept = parts_kept(growth.parts, growth.kept);
+    Ok(KeptSet { set, kept })
 }
 
 // A maximal independent subset of the contracted elements, the set together with it, and what is kept of their union.
@@ -471,20 +516,37 @@ fn contraction_keep(
     joined_kept(alloc, chosen, joined, kept)
 }
 
-// Parts of the set, and what each matroid keeps of its part: greedy parts, into which the other members come one after the other. Any parts of
-// the set will do, and of greedy ones few have to change.
+// Parts of the set, and what each matroid keeps of its part. Any parts of the set will do.
 #[cycle(running)]
 fn union_keep(alloc: Global, matroids: &[AnyMatroid], set: &ElemSet) -> Result<AnyKept, AllocError>
     requires joined { AreJoined elements_in IsSoundOne matroids.now }
     requires base { union_in matroids.now set.now ≡ true }
     ensures { IfOk result (λ k. KeepsUnion matroids.now set.now k) }
 {
+    let growth = filled_parts(alloc, matroids, set)?;
+    Ok(parts_kept(growth.parts, growth.kept))
+}
+
+// Parts of a maximal independent subset of a set, and what each matroid keeps of its part: greedy parts, into which the other elements of the set
+// come one after the other, if they can. Of greedy parts few have to change.
+#[cycle(running)]
+fn filled_parts(
+    alloc: Global,
+    matroids: &[AnyMatroid],
+    set: &ElemSet,
+) -> Result<Growth<AnyKept>, AllocError>
+    requires joined { AreJoined elements_in IsSoundOne matroids.now }
+    requires below { AllBelow (size_in matroids.now) set.now }
+    ensures are { IfOk result (λ g. AreParts (map test_in matroids.now) g.parts) }
+    ensures kept { IfOk result (λ g. AreKept KeepsOne matroids.now g.parts g.kept.items) }
+    ensures maximal { IfOk result (λ g. IsMaximal (union_in matroids.now) set.now (family_union g.parts)) }
+{
     let parts = greedy_parts(alloc, matroids, set)?;
     let mut growth = growth_from(alloc, matroids, parts)?;
     for x in set.as_slice() {
         take_turn(alloc, matroids, &mut growth, *x)?;
     }
-    Ok(parts_kept(growth.parts, growth.kept))
+    Ok(growth)
 }
 
 // Disjoint parts of a set: each matroid takes by one run what it can of what the ones before it left, in rising order.

@@ -1,6 +1,6 @@
 -- Each kind that is made of others runs as its law about runs says: a dual by what a run along the reversed order
 -- leaves out, a truncation by the first that a run takes, minors along a changed order, a union by parts that grow. What is kept is kept within;
--- of a set of a union greedy parts come first, and a run of the union that begins with them takes the whole set.
+-- of a set of a union greedy parts come first, and what else of the set can come into the parts comes in, element after element.
 use Rattle.std.proofs.Common.{◌≡◌, ℕ, ◌+◌, ◌<◌, List, Bool, ◌++◌, [], get_or, length, map, reverse, refl, subst, sym, ap, ◌∙◌, arith, rules}
 use Rattle.std.proofs.lemmas.Result.{IfOk-weaker}
 use Rattle.std.proofs.lemmas.Bool.{or_right}
@@ -44,7 +44,7 @@ use Rattle.mat_any.specs.declared.any.AnyMatroid.{the_lemmas}
 use Rattle.mat_any.proofs.DualNests.{count_within, keeps_within, sound_within, test_within}
 use Rattle.mat_any.proofs.JoinedLaws.{each_lawful, union_lawful}
 use Rattle.mat_any.proofs.JoinedMatroids.{joined_at, keeps_at, size_at, test_at_node}
-use Rattle.mat_any.proofs.WholeRuns.{run_of_rest, running_ends, running_within}
+use Rattle.mat_any.proofs.WholeRuns.{growing_ends, growing_more, growing_within, maximal_whole, run_of_rest}
 use Rattle.mat_any.specs.Trees.{dual, element_count, is_independent}
 use Rattle.mat_any.specs.TreeLaws.{tree_laws}
 use Rattle.mat_any.specs.Views.{tree_of}
@@ -242,32 +242,84 @@ contraction_keep-returns t c =
     (λ k made. made tree c.args.away.now c.args.set.now chosen c.in_ok-joined.ensures.members c.in_ok-kept.ensures)
     c.joined_kept.ensures
 
-pub columns_keep-run-requires : goal.columns_keep-run-requires
-columns_keep-run-requires t c =
+pub columns_keep-base_keep-requires : goal.columns_keep-base_keep-requires
+columns_keep-base_keep-requires t c =
     let n = element_count (tree_of c.args.inner.now) in
-    let items = c.as_slice.ensures.items in
     let outside = c.in_ok-outside.ensures.members
-    ∙ ap (λ E. minus E c.args.set.now) (c.in_ok-all_below.ensures.members ∙ ap all_below c.size_of.ensures) in (
-      search rules,
-      (
-        c.requires.sound,
-        (
-          subst (AllBelow n) (sym (items ∙ outside)) (IsSet-minus n (all_below n) c.args.set.now (IsSet-all_below n)).below,
-          subst AreDistinct (sym items) (AreDistinct-rising c.in_ok-outside.outside c.in_ok-outside.ensures.set),
-        ),
-      ),
-    )
+    ∙ ap (λ E. minus E c.args.set.now) (c.in_ok-all_below.ensures.members ∙ ap all_below c.size_of.ensures) in
+    (search rules, (c.requires.sound, subst (AllBelow n) (sym outside) (IsSet-minus n (all_below n) c.args.set.now (IsSet-all_below n)).below))
 
 pub columns_keep-returns : goal.columns_keep-returns
 unfolding union
 columns_keep-returns t c =
-    let n = element_count (tree_of c.args.inner.now) in
-    let p = is_independent (tree_of c.args.inner.now) in
     let outside = c.in_ok-outside.ensures.members
     ∙ ap (λ E. minus E c.args.set.now) (c.in_ok-all_below.ensures.members ∙ ap all_below c.size_of.ensures) in
-    let base = run_maximal_of c.lawful.ensures c.in_ok-outside.outside c.in_ok-base.base (c.in_ok-base.ensures ∙ ap (grown_along p []) c.as_slice.ensures.items) in
-    kept_is c.lawful.ensures c.args.set.now [] _ c.in_ok-base.base c.in_ok-marks.marks c.in_ok-base_marks.base_marks c.in_ok-all.all c.requires.base
-    refl outside base c.in_ok-marks.ensures.members c.in_ok-base_marks.ensures.members c.in_ok-all.ensures
+    kept_is c.lawful.ensures c.args.set.now [] _ c.in_ok-base.base.set c.in_ok-marks.marks c.in_ok-base_marks.base_marks c.in_ok-all.all
+    c.requires.base refl outside c.in_ok-base.ensures.maximal c.in_ok-marks.ensures.members c.in_ok-base_marks.ensures.members c.in_ok-all.ensures
+
+pub columns_keep-columns-requires-clause-base : goal.columns_keep-columns-requires-clause-base
+columns_keep-columns-requires-clause-base t c = c.in_ok-base.ensures.maximal.passes
+
+pub base_keep-union_base-requires : goal.base_keep-union_base-requires
+base_keep-union_base-requires t c =
+    let at = c.in-Union in
+    let m = c.args.matroid.now in
+    let ms = c.deref-in-Union.result.now in
+    let same = c.deref-in-Union.ensures.value in (
+      search (rules, the_lemmas),
+      (
+        joined_at m at.parts ms at.is same c.requires.sound,
+        subst (λ k. AllBelow k c.args.within.now) (size_at m at.parts ms at.is same) c.requires.below,
+      ),
+    )
+
+pub base_keep-returns-in-Union-clause-maximal : goal.base_keep-returns-in-Union-clause-maximal
+base_keep-returns-in-Union-clause-maximal t c =
+    let test = test_at_node c.args.matroid.now c.in-Union.parts c.deref-in-Union.result.now c.in-Union.is c.deref-in-Union.ensures.value in
+    IfOk-weaker c.union_base.result _ _ (λ k told. subst (λ p. IsMaximal p c.args.within.now k.set) (sym test) told) c.union_base.ensures.maximal
+
+pub base_keep-returns-in-Union-clause-kept : goal.base_keep-returns-in-Union-clause-kept
+base_keep-returns-in-Union-clause-kept t c =
+    IfOk-weaker c.union_base.result _ _
+    (λ k told. keeps_at c.args.matroid.now c.in-Union.parts c.deref-in-Union.result.now c.in-Union.is c.deref-in-Union.ensures.value k.set k.kept told)
+    c.union_base.ensures.kept
+
+pub run_base-run-requires : goal.run_base-run-requires
+run_base-run-requires t c =
+    let items = c.as_slice.ensures.items in (
+      search rules,
+      (
+        c.requires.sound,
+        (
+          subst (AllBelow (element_count (tree_of c.args.matroid.now))) (sym items) c.requires.below,
+          rw items (AreDistinct-rising c.args.within.now c.as_slice.ensures.rises),
+        ),
+      ),
+    )
+
+pub run_base-keep-requires : goal.run_base-keep-requires
+run_base-keep-requires t c =
+    let p = is_independent (tree_of c.args.matroid.now) in
+    let base = run_maximal_of c.lawful.ensures c.args.within.now c.in_ok-set.set (c.in_ok-set.ensures ∙ ap (grown_along p []) c.as_slice.ensures.items) in
+    (search rules, (c.requires.sound, base.passes))
+
+pub run_base-returns-clause-maximal : goal.run_base-returns-clause-maximal
+run_base-returns-clause-maximal t c =
+    let p = is_independent (tree_of c.args.matroid.now) in
+    run_maximal_of c.lawful.ensures c.args.within.now c.in_ok-set.set (c.in_ok-set.ensures ∙ ap (grown_along p []) c.as_slice.ensures.items)
+
+pub union_base-filled_parts-requires : goal.union_base-filled_parts-requires
+union_base-filled_parts-requires t c = (search rules, (c.requires.joined, c.requires.below))
+
+pub union_base-returns-clause-maximal : goal.union_base-returns-clause-maximal
+union_base-returns-clause-maximal t c =
+    let same : c.in_ok-set.set ≡ family_union c.in_ok-growth.growth.parts = search rules in
+    subst (IsMaximal (union_in c.args.matroids.now) c.args.within.now) (sym same) c.in_ok-growth.ensures.maximal
+
+pub union_base-returns-clause-kept : goal.union_base-returns-clause-kept
+union_base-returns-clause-kept t c =
+    let same : c.in_ok-set.set ≡ family_union c.in_ok-growth.growth.parts = search rules in
+    c.parts_kept.ensures c.args.matroids.now c.in_ok-set.set c.in_ok-growth.ensures.are (sym same) c.in_ok-growth.ensures.kept
 
 pub greedy_parts-loop-i-init : goal.greedy_parts-loop-i-init
 greedy_parts-loop-i-init t c = taken_none (map test_in c.args.matroids.now) c.args.set.now _ c.in_ok-rest.rest c.new-parts.ensures.items c.in_ok-rest.ensures.equal
@@ -308,49 +360,64 @@ greedy_parts-returns-clause-are t c =
 pub greedy_parts-returns-clause-inside : goal.greedy_parts-returns-clause-inside
 greedy_parts-returns-clause-inside t c = subst (λ p. IsSubset (family_union p) c.args.set.now) (sym c.new.ensures.items) (taken_inside c.loop-i.invariant)
 
-pub union_keep-greedy_parts-requires : goal.union_keep-greedy_parts-requires
-union_keep-greedy_parts-requires t c =
+pub union_keep-filled_parts-requires : goal.union_keep-filled_parts-requires
+union_keep-filled_parts-requires t c =
     let set = (union_lawful c.args.matroids.now c.requires.joined).sets c.args.set.now c.requires.base in
     (search rules, (c.requires.joined, set.below))
-
-pub union_keep-growth_from-requires : goal.union_keep-growth_from-requires
-union_keep-growth_from-requires t c = (search rules, (c.requires.joined, c.in_ok-parts.ensures.are))
-
-pub union_keep-loop-x-init : goal.union_keep-loop-x-init
-union_keep-loop-x-init t c =
-    let ms = c.args.matroids.now in
-    let joined = c.requires.joined in
-    let growth = c.in_ok-growth in
-    record {
-      growing = growth.ensures.growing;
-      kept = growth.ensures.kept;
-      running = running_within (union_lawful ms joined) c.as_slice-x-items.ensures.items c.requires.base (family_union growth.growth.parts)
-          (parts_pass (map test_in ms) (each_lawful ms joined) growth.growth.parts growth.ensures.growing.are)
-          (subst (λ p. IsSubset (family_union p) c.args.set.now) (sym growth.ensures.same) c.in_ok-parts.ensures.inside);
-    }
-
-pub union_keep-take_turn-requires : goal.union_keep-take_turn-requires
-union_keep-take_turn-requires t c =
-    let ms = c.args.matroids.now in
-    let n = size_in ms in
-    let set = (union_lawful ms c.requires.joined).sets c.args.set.now c.requires.base in
-    let at = next_below c.as_slice-x-items.result.now c.args.set.now n c.loop-x.x-index c.as_slice-x-items.ensures.items set.below c.loop-x-test.true in
-    (search rules, (c.requires.joined, (c.loop-x.invariant.growing, (c.loop-x.invariant.kept, at))))
-
-pub union_keep-loop-x-preserved : goal.union_keep-loop-x-preserved
-union_keep-loop-x-preserved t c = record {
-  growing = c.in_ok-take_turn.ensures.growing;
-  kept = c.in_ok-take_turn.ensures.kept;
-  running = running_more c.loop-x.invariant.running (get_or c.as_slice-x-items.result.now c.loop-x.x-index 0) c.loop-x-test.true refl
-      (family_union c.take_turn.new.growth.parts) c.in_ok-take_turn.ensures.step;
-}
 
 pub union_keep-returns : goal.union_keep-returns
 union_keep-returns t c =
     let ms = c.args.matroids.now in
-    let whole = running_ends (union_lawful ms c.requires.joined) c.as_slice-x-items.ensures.items c.requires.base (family_union c.loop-x.growth.parts) c.loop-x.x-index
-    c.loop-x-test.false c.loop-x.invariant.running in
-    c.parts_kept.ensures ms c.args.set.now c.loop-x.invariant.growing.are whole c.loop-x.invariant.kept
+    let set = c.args.set.now in
+    let whole = maximal_whole (union_lawful ms c.requires.joined) set (family_union c.in_ok-growth.growth.parts) c.requires.base
+    c.in_ok-growth.ensures.maximal in
+    c.parts_kept.ensures ms set c.in_ok-growth.ensures.are whole c.in_ok-growth.ensures.kept
+
+pub filled_parts-greedy_parts-requires : goal.filled_parts-greedy_parts-requires
+filled_parts-greedy_parts-requires t c = (search rules, (c.requires.joined, c.requires.below))
+
+pub filled_parts-growth_from-requires : goal.filled_parts-growth_from-requires
+filled_parts-growth_from-requires t c = (search rules, (c.requires.joined, c.in_ok-parts.ensures.are))
+
+pub filled_parts-loop-x-init : goal.filled_parts-loop-x-init
+filled_parts-loop-x-init t c =
+    let ms = c.args.matroids.now in
+    let growth = c.in_ok-growth in
+    record {
+      growing = growth.ensures.growing;
+      kept = growth.ensures.kept;
+      grown = growing_within (union_in ms) c.as_slice-x-items.result.now c.args.set.now (family_union growth.growth.parts)
+          c.as_slice-x-items.ensures.items
+          (parts_pass (map test_in ms) (each_lawful ms c.requires.joined) growth.growth.parts growth.ensures.growing.are)
+          (subst (λ p. IsSubset (family_union p) c.args.set.now) (sym growth.ensures.same) c.in_ok-parts.ensures.inside);
+    }
+
+pub filled_parts-take_turn-requires : goal.filled_parts-take_turn-requires
+filled_parts-take_turn-requires t c =
+    let n = size_in c.args.matroids.now in
+    let at = next_below c.as_slice-x-items.result.now c.args.set.now n c.loop-x.x-index c.as_slice-x-items.ensures.items c.requires.below
+    c.loop-x-test.true in
+    (search rules, (c.requires.joined, (c.loop-x.invariant.growing, (c.loop-x.invariant.kept, at))))
+
+pub filled_parts-loop-x-preserved : goal.filled_parts-loop-x-preserved
+filled_parts-loop-x-preserved t c = record {
+  growing = c.in_ok-take_turn.ensures.growing;
+  kept = c.in_ok-take_turn.ensures.kept;
+  grown = growing_more (union_lawful c.args.matroids.now c.requires.joined) c.loop-x.invariant.grown
+      (get_or c.as_slice-x-items.result.now c.loop-x.x-index 0) c.loop-x-test.true refl (family_union c.take_turn.new.growth.parts)
+      c.in_ok-take_turn.ensures.step;
+}
+
+pub filled_parts-returns-clause-are : goal.filled_parts-returns-clause-are
+filled_parts-returns-clause-are t c = c.loop-x.invariant.growing.are
+
+pub filled_parts-returns-clause-kept : goal.filled_parts-returns-clause-kept
+filled_parts-returns-clause-kept t c = c.loop-x.invariant.kept
+
+pub filled_parts-returns-clause-maximal : goal.filled_parts-returns-clause-maximal
+filled_parts-returns-clause-maximal t c =
+    growing_ends (union_lawful c.args.matroids.now c.requires.joined) c.as_slice-x-items.result.now c.args.set.now
+    (family_union c.loop-x.growth.parts) c.loop-x.x-index c.as_slice-x-items.ensures.items c.loop-x-test.false c.loop-x.invariant.grown
 
 pub keep_each-loop-i-preserved : goal.keep_each-loop-i-preserved
 keep_each-loop-i-preserved t c =
@@ -358,17 +425,6 @@ keep_each-loop-i-preserved t c =
     subst (AreKeptSo KeepsOne ms c.args.parts.now (c.loop-i.i + 1)) (sym c.in_ok-push.ensures.items)
     (kept_more KeepsOne ms c.args.parts.now c.loop-i.i c.loop-i.kept.items c.index-matroids-i.result c.get.result.now c.in_ok-keep.field-0 c.loop-i.invariant c.loop-i-test.true
     c.index-matroids-i.is c.get.ensures.item c.in_ok-keep.ensures)
-
-pub columns_keep-keep-requires : goal.columns_keep-keep-requires
-columns_keep-keep-requires t c =
-    let p = is_independent (tree_of c.args.inner.now) in
-    let base = run_maximal_of c.lawful.ensures c.in_ok-outside.outside c.in_ok-base.base (c.in_ok-base.ensures ∙ ap (grown_along p []) c.as_slice.ensures.items) in
-    (search rules, (c.requires.sound, base.passes))
-
-pub columns_keep-columns-requires-clause-base : goal.columns_keep-columns-requires-clause-base
-columns_keep-columns-requires-clause-base t c =
-    let p = is_independent (tree_of c.args.inner.now) in
-    (run_maximal_of c.lawful.ensures c.in_ok-outside.outside c.in_ok-base.base (c.in_ok-base.ensures ∙ ap (grown_along p []) c.as_slice.ensures.items)).passes
 
 pub grown_parts-loop-x-init : goal.grown_parts-loop-x-init
 grown_parts-loop-x-init t c =

@@ -1,6 +1,7 @@
-use Rattle.std.proofs.Common.{map}
+use Rattle.std.proofs.Common.{[], map}
 use Rattle.mat_sets.specs.Families.{family_union}
 use Rattle.mat_laws.proofs.GreedyRunSteps.{IsRunning}
+use Rattle.mat_laws.proofs.Growing.{IsGrowing}
 use Rattle.mat_union.proofs.MadeMoves.{AreMadeSo}
 use Rattle.mat_union.proofs.PartsOfSets.{AreTakenSo}
 use Rattle.mat_union.proofs.SoundMatroids.{AreKeptAnew, AreKeptSo}
@@ -28,9 +29,9 @@ invariant-make_moves-loop-i l = record {
 abbrev pub invariant-greedy_parts-loop-i : goal.invariant-greedy_parts-loop-i
 invariant-greedy_parts-loop-i l = AreTakenSo (map test_in l.matroids) l.set l.i l.parts.items l.rest
 
-abbrev pub invariant-union_keep-loop-x : goal.invariant-union_keep-loop-x
-invariant-union_keep-loop-x l = record {
+abbrev pub invariant-filled_parts-loop-x : goal.invariant-filled_parts-loop-x
+invariant-filled_parts-loop-x l = record {
   growing : AreGrowing (size_in l.matroids) (map test_in l.matroids) l.growth.parts l.growth.spanned l.growth.unspanned;
   kept : AreKept KeepsOne l.matroids l.growth.parts l.growth.kept.items;
-  running : IsRunning (union_in l.matroids) l.x-items l.x-index (family_union l.growth.parts);
+  grown : IsGrowing (union_in l.matroids) [] l.x-items l.x-index (family_union l.growth.parts);
 }
