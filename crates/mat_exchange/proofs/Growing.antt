@@ -184,10 +184,26 @@ module _ {n : ℕ} {a b : Exchanges} {w old : ℕ → Weight} {root : ℕ} {R O 
     pub grown_without_slack : IsGrownSplit n a b w old w1 w2
     grown_without_slack = grown_split (λ S stuck d slack. no_slack S stuck d slack)
 
--- ---- no source
+-- an element is a source and a sink: no search is stuck
+pub ends_at_sink : {n : ℕ} {a b : Exchanges} {w1 w2 : ℕ → Weight} (x : ℕ) → x < n → is_heaviest_addable n a w1 x ≡ true
+    → is_heaviest_addable n b w2 x ≡ true → EndsSearch n a b w1 w2
+ends_at_sink x l source sink S stuck d slack = both_ways _ (stuck.no_sink x (stuck.reached.starts x l source)) sink
 
--- where nothing can be added in the first, nothing changes, since no search has a slack
-ends_without_source : {n : ℕ} {a b : Exchanges} {w1 w2 : ℕ → Weight} → ((x : ℕ) → a.adds x ≡ false) → EndsSearch n a b w1 w2
+-- ---- no change
+
+-- where a search has no slack, nothing changes
+pub grown_unchanged : (n : ℕ) (a b : Exchanges) (u1 u2 : ℕ → Weight) → EndsSearch n a b u1 u2 → NoExchangeGains a u1 → NoExchangeGains b u2
+    → IsGrownSplit n a b (sum_at u1 u2) u2 u1 u2
+grown_unchanged n a b u1 u2 ends gains1 gains2 = record {
+  first_gains = gains1;
+  second_gains = gains2;
+  adds = λ x l. refl;
+  within = λ h olds x l. still_within (u2 x) (u2 x) h n refl (olds x l);
+  ends = ends;
+}
+
+-- where nothing can be added in the first, no search has a slack
+pub ends_without_source : {n : ℕ} {a b : Exchanges} {w1 w2 : ℕ → Weight} → ((x : ℕ) → a.adds x ≡ false) → EndsSearch n a b w1 w2
 ends_without_source {n} {a} {b} {w1} {w2} none S stuck d slack = no slack
   where
     empty : (v : ℕ) → is_member v S ≡ true → ⊥
@@ -200,13 +216,3 @@ ends_without_source {n} {a} {b} {w1} {w2} none S stuck d slack = no slack
     no (first_exchange y x ly lx t m out e) = empty y m
     no (second_exchange x y lx ly t m out e) = empty x m
     no (second_addition top x lt lx t k m e) = empty x m
-
-pub grown_unchanged : (n : ℕ) (a b : Exchanges) (u1 u2 : ℕ → Weight) → ((x : ℕ) → a.adds x ≡ false) → NoExchangeGains a u1 → NoExchangeGains b u2
-    → IsGrownSplit n a b (sum_at u1 u2) u2 u1 u2
-grown_unchanged n a b u1 u2 none gains1 gains2 = record {
-  first_gains = gains1;
-  second_gains = gains2;
-  adds = λ x l. refl;
-  within = λ h olds x l. still_within (u2 x) (u2 x) h n refl (olds x l);
-  ends = ends_without_source none;
-}

@@ -1,5 +1,5 @@
 -- What has grown: where nothing can be added in the first matroid nothing changes, and a search after the changes has no slack.
-use Rattle.std.proofs.Common.{◌≡◌, ℕ, ◌+◌, ◌*◌, ◌^◌, ◌<◌, ◌≤◌, false, List, length, Some, None, refl, sym, ◌∙◌, subst, arith}
+use Rattle.std.proofs.Common.{◌≡◌, ℕ, ◌+◌, ◌*◌, ◌^◌, ◌<◌, ◌≤◌, true, false, List, length, Some, None, refl, sym, ◌∙◌, subst, arith}
 use Rattle.std.proofs.lemmas.Nat.{mul-le}
 use Rattle.mat_sets.specs.Limits.{most_elements, largest_weight, largest_number, split_room}
 use Rattle.mat_sets.specs.Sets.{is_member}
@@ -7,20 +7,33 @@ use Rattle.mat_sets.specs.Weights.{◌⊕◌, weight_at, IsWeightWithin, AreWeig
 use Rattle.mat_sets.specs.declared.weight.Weight.{Weight}
 use Rattle.mat_sets.proofs.WeightOrder.{weight_within_at}
 use Rattle.mat_laws.specs.declared.exchange.Exchange.{Exchange}
-use Rattle.mat_laws.specs.TightPaths.{Exchanges, exchanges_in}
+use Rattle.mat_laws.specs.TightPaths.{Exchanges, exchanges_in, is_heaviest_addable}
+use Rattle.mat_laws.proofs.TightArcs.{heaviest_addable_from}
 use Rattle.mat_exchange.specs.declared.found.Found.{Found}
 use Rattle.mat_exchange.specs.declared.found.Found.TheVariants.{Path, Stuck}
 use Rattle.mat_exchange.specs.declared.grown.Grown.{Grown}
 use Rattle.mat_exchange.specs.Searching.{IsFound}
-use Rattle.mat_exchange.specs.Growing.{NoExchangeGains, EndsSearch, IsGrownSplit, IsGrown, HasNoSlack, StaysHeaviest, sum_at}
+use Rattle.mat_exchange.specs.Growing.{NoExchangeGains, EndsSearch, IsGrownSplit, IsGrown, IsHeaviestOf, HasNoSlack, StaysHeaviest, sum_at}
 use Rattle.mat_exchange.proofs.HeaviestExchanges.{heaviest_in_rows}
-use Rattle.mat_exchange.proofs.Growing.{grown_unchanged}
+use Rattle.mat_exchange.proofs.Growing.{ends_at_sink, ends_without_source, grown_unchanged}
 use Rattle.mat_exchange.proofs.WeightBounds.{IsWeightWithin-weaken, AreWeightsWithin-from, first_within, second_within}
 
 -- where nothing can be added, nothing changes
 pub grown_without_source : (n : ℕ) (a b : Exchanges) (u1 u2 : ℕ → Weight) (A : List ℕ) → ((x : ℕ) → is_member x A ≡ a.adds x)
     → ((x : ℕ) → is_member x A ≡ false) → NoExchangeGains a u1 → NoExchangeGains b u2 → IsGrownSplit n a b (sum_at u1 u2) u2 u1 u2
-grown_without_source n a b u1 u2 A tells none gains1 gains2 = grown_unchanged n a b u1 u2 (λ x. sym (tells x) ∙ none x) gains1 gains2
+grown_without_source n a b u1 u2 A tells none gains1 gains2 =
+    grown_unchanged n a b u1 u2 (ends_without_source (λ x. sym (tells x) ∙ none x)) gains1 gains2
+
+-- a heaviest of the elements that can be added is a source
+pub source_at : (a : Exchanges) {w : ℕ → Weight} {x : ℕ} (A : List ℕ) → ((x : ℕ) → is_member x A ≡ a.adds x)
+    → IsHeaviestOf (λ x. is_member x A) w x → IsHeaviestOf a.adds w x
+source_at a {w} {x} A tells h = record { passes = sym (tells x) ∙ h.passes; most = λ y k. h.most y (tells y ∙ k) }
+
+-- where a source is a sink, nothing changes
+pub grown_at_sink : (n : ℕ) (a b : Exchanges) (u1 u2 : ℕ → Weight) (x : ℕ) → x < n → IsHeaviestOf a.adds u1 x
+    → is_heaviest_addable n b u2 x ≡ true → NoExchangeGains a u1 → NoExchangeGains b u2 → IsGrownSplit n a b (sum_at u1 u2) u2 u1 u2
+grown_at_sink n a b u1 u2 x l source sink gains1 gains2 =
+    grown_unchanged n a b u1 u2 (ends_at_sink x l (heaviest_addable_from n a u1 x source.passes (λ e less k. source.most e k)) sink) gains1 gains2
 
 -- ---- the answer
 

@@ -1,14 +1,18 @@
 -- A heaviest element of those that pass, found by going through them in rising order.
-use Rattle.std.proofs.Common.{◌≡◌, ℕ, ◌<◌, ◌≤◌, ◌+◌, Bool, true, false, cond, Option, Some, None, IfSome, ◌⊎◌, inl, inr, sym, ap}
-use Rattle.std.proofs.Common.{subst, arith}
-use Rattle.std.proofs.lemmas.Bool.{cases_Bool, cases_lt, cases_eq, both_ways}
+use Rattle.std.proofs.Common.{◌≡◌, ℕ, ◌<◌, ◌≤◌, ◌+◌, ◌*◌, ◌/◌, Bool, true, false, ◌&&◌, cond, eqb, List, length, Option, Some, None, IfSome, ◌⊎◌}
+use Rattle.std.proofs.Common.{inl, inr, sym, ap, ◌∙◌, subst, arith}
+use Rattle.std.proofs.lemmas.Bool.{cases_Bool, cases_lt, cases_eq, both_ways, and_parts, and_from, and_right, eqb-true, eq-eqb, ne_eqb, false_from_ne_true}
 use Rattle.std.proofs.lemmas.Int.{ints}
+use Rattle.mat_sets.specs.Bits.{bits_of}
 use Rattle.mat_sets.specs.Search.{IsFirstFrom}
+use Rattle.mat_sets.specs.Sets.{is_member}
 use Rattle.mat_sets.specs.Weights.{zero_weight, negated, ◌⊕◌, ◌≼◌, is_below}
 use Rattle.mat_sets.specs.declared.weight.Weight.{Weight}
+use Rattle.mat_sets.proofs.Bits.{none_past}
+use Rattle.mat_sets.proofs.Truths.{and_all}
 use Rattle.mat_sets.proofs.WeightOrder.{pairs, at_most_same, at_most_trans, below_at_most, not_below_gives}
 use Rattle.mat_exchange.specs.Growing.{heavier_of, IsHeaviestOrNone}
-use Rattle.mat_exchange.specs.HeaviestMembers.{IsAtBound, IsHeaviestTo, IsHeaviestToOrNone}
+use Rattle.mat_exchange.specs.HeaviestMembers.{IsHeaviestTo, IsHeaviestToOrNone, heavier_of_two, in_bucket}
 
 -- each that passes before v + 1 passes before `from` or is v
 pub passes_next : (test : ℕ → Bool) (from v x : ℕ) → IsFirstFrom test from v → x < v + 1 → test x ≡ true → (x < from) ⊎ (x ≡ v)
@@ -17,27 +21,38 @@ passes_next test from v x f l p = elim (cases_lt x from) [
   | inr a ↦ elim (cases_eq x v) [ inl e ↦ inr e | inr d ↦ absurd (both_ways _ (f.none_before x a (omega arith)) p) ]
 ]
 
-heaviest_here : (test : ℕ → Bool) (w : ℕ → Weight) (from v : ℕ) → IsFirstFrom test from v
-    → ((x : ℕ) → x < from → test x ≡ true → w x ≼ w v) → IsHeaviestTo test w (v + 1) v
-heaviest_here test w from v f before = record {
-  passes = f.passes;
-  most = λ x l p. elim (passes_next test from v x f l p) [ inl a ↦ before x a p | inr e ↦ at_most_same (w x) (w v) (ap w e) ];
+-- v is a heaviest of those between two numbers: the heavier of it and a heaviest before them is a heaviest of all
+pub heaviest_to_merged : (test : ℕ → Bool) (w : ℕ → Weight) (from to v : ℕ) (found : Option ℕ) → test v ≡ true
+    → ((x : ℕ) → from ≤ x → x < to → test x ≡ true → w x ≼ w v) → IsHeaviestToOrNone test w from found
+    → IsHeaviestToOrNone test w to (heavier_of w found v)
+heaviest_to_merged test w from to v None passes most h = record {
+  passes = passes;
+  most = λ x l p. elim (cases_lt x from) [ inl a ↦ absurd (both_ways _ (h x a) p) | inr a ↦ most x a l p ];
 }
-
-pub heaviest_to_next : (test : ℕ → Bool) (w : ℕ → Weight) (from v : ℕ) (found : Option ℕ) → IsFirstFrom test from v
-    → IsHeaviestToOrNone test w from found → IsHeaviestToOrNone test w (v + 1) (heavier_of w found v)
-heaviest_to_next test w from v None f h = heaviest_here test w from v f (λ x l p. absurd (both_ways _ (h x l) p))
-heaviest_to_next test w from v (Some y) f h = elim (cases_Bool (is_below (w y) (w v))) [
-  | inl more ↦ subst (λ c. IsHeaviestTo test w (v + 1) (cond c v y)) (sym more)
-      (heaviest_here test w from v f (λ x l p. at_most_trans (w x) (w y) (w v) (h.most x l p) (below_at_most (w y) (w v) more)))
-  | inr less ↦ subst (λ c. IsHeaviestTo test w (v + 1) (cond c v y)) (sym less) (record {
+heaviest_to_merged test w from to v (Some y) passes most h = elim (cases_Bool (is_below (w y) (w v))) [
+  | inl more ↦ subst (λ c. IsHeaviestTo test w to (cond c v y)) (sym more) (record {
+    passes = passes;
+    most = λ x l p. elim (cases_lt x from) [
+      | inl a ↦ at_most_trans (w x) (w y) (w v) (h.most x a p) (below_at_most (w y) (w v) more)
+      | inr a ↦ most x a l p
+    ];
+  })
+  | inr less ↦ subst (λ c. IsHeaviestTo test w to (cond c v y)) (sym less) (record {
     passes = h.passes;
-    most = λ x l p. elim (passes_next test from v x f l p) [
+    most = λ x l p. elim (cases_lt x from) [
       | inl a ↦ h.most x a p
-      | inr e ↦ at_most_trans (w x) (w v) (w y) (at_most_same (w x) (w v) (ap w e)) (not_below_gives (w y) (w v) less)
+      | inr a ↦ at_most_trans (w x) (w v) (w y) (most x a l p) (not_below_gives (w y) (w v) less)
     ];
   })
 ]
+
+pub heaviest_to_next : (test : ℕ → Bool) (w : ℕ → Weight) (from v : ℕ) (found : Option ℕ) → IsFirstFrom test from v
+    → IsHeaviestToOrNone test w from found → IsHeaviestToOrNone test w (v + 1) (heavier_of w found v)
+heaviest_to_next test w from v found f h = heaviest_to_merged test w from (v + 1) v found f.passes
+    (λ x a l p. elim (passes_next test from v x f l p) [
+      | inl b ↦ absurd (omega arith)
+      | inr e ↦ at_most_same (w x) (w v) (ap w e)
+    ]) h
 
 -- nothing between two numbers passes
 pub heaviest_to_on : (test : ℕ → Bool) (w : ℕ → Weight) (from to : ℕ) (found : Option ℕ) → ((x : ℕ) → from ≤ x → x < to → test x ≡ false)
@@ -63,19 +78,52 @@ pub heaviest_to_below : (test : ℕ → Bool) (w : ℕ → Weight) (from n : ℕ
 heaviest_to_below test w from n None below h = _
 heaviest_to_below test w from n (Some y) below h = below y h.passes
 
--- an element that passes and weighs as much as a bound of all that pass is a heaviest
-pub heaviest_at_bound : (test : ℕ → Bool) (w : ℕ → Weight) (from : ℕ) (found : Option ℕ) (bound : Option Weight)
-    → IsHeaviestToOrNone test w from found → IfSome bound (λ most. (x : ℕ) → test x ≡ true → w x ≼ most) → IsAtBound w found bound
-    → IsHeaviestOrNone test w found
-heaviest_at_bound test w from None bound h most is = absurd is
-heaviest_at_bound test w from (Some y) bound h most is = record {
-  passes = h.passes;
-  most = subst (λ b. IfSome b (λ most. (x : ℕ) → test x ≡ true → w x ≼ most)) is most;
-}
+-- ---- buckets
 
--- no gain of the fringe is above what is left of the change so far
-pub gain_at_most : (gain total bound : Weight) → (gain ⊕ total) ≼ zero_weight → bound ≡ negated total → gain ≼ bound
-gain_at_most gain total bound late e = omega (arith, ints, pairs)
+pub bucket_parts : (members : List ℕ) (at x : ℕ) → in_bucket members at x ≡ true → (is_member x members ≡ true) × (x / 64 ≡ at)
+bucket_parts members at x k =
+    let p = and_parts (is_member x members) (eqb (x / 64) at) k in
+    (p.0, eqb-true (x / 64) at p.1)
+
+pub bucket_from : (members : List ℕ) (at x : ℕ) → is_member x members ≡ true → x / 64 ≡ at → in_bucket members at x ≡ true
+bucket_from members at x m e = and_from (is_member x members) (eqb (x / 64) at) m (eq-eqb (x / 64) at e)
+
+-- the numbers of a bucket are those of 64 bits
+pub bucket_bit : (members : List ℕ) (at i : ℕ) → i < 64 → in_bucket members at (at * 64 + i) ≡ is_member (at * 64 + i) members
+bucket_bit members at i small =
+    ap (λ b. is_member (at * 64 + i) members && b) (eq-eqb ((at * 64 + i) / 64) at (omega arith)) ∙ and_all (is_member (at * 64 + i) members)
+
+pub bucket_before : (members : List ℕ) (at x : ℕ) → x < at * 64 → in_bucket members at x ≡ false
+bucket_before members at x l = and_right (is_member x members) (eqb (x / 64) at) (ne_eqb (x / 64) at (λ e. omega arith))
+
+pub bucket_after : (members : List ℕ) (at x : ℕ) → at * 64 + 64 ≤ x → in_bucket members at x ≡ false
+bucket_after members at x l = and_right (is_member x members) (eqb (x / 64) at) (ne_eqb (x / 64) at (λ e. omega arith))
+
+-- no word, no members
+pub bucket_past : (words : List ℕ) (at x : ℕ) → length words ≤ at → in_bucket (bits_of words) at x ≡ false
+bucket_past words at x past = false_from_ne_true (in_bucket (bits_of words) at x) (λ k.
+    let p = bucket_parts (bits_of words) at x k in
+    let e = p.1 in
+    both_ways _ (none_past words (64 * length words) (omega arith) x (omega arith)) p.0)
+
+-- what is a heaviest of the members passes
+pub heaviest_below : (test : ℕ → Bool) (w : ℕ → Weight) (n : ℕ) (found : Option ℕ) → ((x : ℕ) → test x ≡ true → x < n)
+    → IsHeaviestOrNone test w found → IfSome found (λ y. y < n)
+heaviest_below test w n None below h = _
+heaviest_below test w n (Some y) below h = below y h.passes
+
+-- the next bucket is gone through
+pub heaviest_to_bucket : (members : List ℕ) (w : ℕ → Weight) (at : ℕ) (found top : Option ℕ)
+    → IsHeaviestToOrNone (λ x. is_member x members) w (at * 64) found → IsHeaviestOrNone (in_bucket members at) w top
+    → IsHeaviestToOrNone (λ x. is_member x members) w ((at + 1) * 64) (heavier_of_two w found top)
+heaviest_to_bucket members w at found None h none =
+    heaviest_to_on (λ x. is_member x members) w (at * 64) ((at + 1) * 64) found
+    (λ x a l. false_from_ne_true (is_member x members) (λ m. both_ways _ (none x) (bucket_from members at x m (omega arith)))) h
+heaviest_to_bucket members w at found (Some y) h top =
+    heaviest_to_merged (λ x. is_member x members) w (at * 64) ((at + 1) * 64) y found (bucket_parts members at y top.passes).0
+    (λ x a l m. top.most x (bucket_from members at x m (omega arith))) h
+
+-- ---- the next step
 
 -- a change by the negated gain makes the gain 0, and no lesser one more
 pub level_after : (gain step : Weight) → step ≡ negated gain → gain ⊕ step ≡ zero_weight

@@ -18,6 +18,7 @@ pub mod Growing
 pub mod GrowthChanges
 pub mod GrowthEntries
 pub mod HeaviestMembers
+pub mod FringeTops
 pub mod WordSearches
 pub mod Raising
 pub mod ChangesSoFar

@@ -7,3 +7,4 @@ pub mod SlackParts
 pub mod TightSearches
 pub mod Growing
 pub mod HeaviestMembers
+pub mod Tops

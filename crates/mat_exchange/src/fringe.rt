@@ -1,19 +1,125 @@
 //! The elements outside a reached set that a change of the weights lets in, each with the greatest of its gains: the frontier and the keys of
 //! Dijkstra's algorithm, as the Hungarian method runs it (Schrijver, chapters 7 and 17).
-ghost use Rattle.std.specs.Prelude.{◌≡◌, ◌&&◌, ◌==◌, if◌then◌else◌, ◌<◌, ◌≤◌, ℕ, true, length, OnOk};
+ghost use Rattle.std.specs.Prelude.{◌≡◌, ◌&&◌, ◌==◌, if◌then◌else◌, ◌<◌, ◌≤◌, ℕ, true, [], length, IfOk, IfSome, OnOk};
 ghost use Rattle.mat_sets.specs.{
   Bits.{bits_of},
   Limits.{largest_number, most_elements},
-  Sets.{is_member},
+  Sets.{is_member, without_one},
   Weights.{◌⊕◌, ◌⊖◌, weight_at, IsWeightWithin, AreWeightsWithin},
 };
 ghost use Rattle.mat_laws.specs.TightPaths.{exchanges_in};
-ghost use Rattle.mat_exchange.specs.{Changes.{change_room, lowered, raised}, Growing.{IsOffered, gain_at, leads, entry_gain}};
+ghost use Rattle.mat_exchange.specs.{
+  Changes.{change_room, lowered, raised},
+  Growing.{IsHeaviestOrNone, IsOffered, gain_at, leads, entry_gain},
+  Tops.{AreTops},
+};
 
+use crate::heaviest_members::heaviest_in_bucket;
 use crate::row_table::RowTable;
 use crate::slack::excess;
+use crate::tops::{heaviest_top, raise_top};
 use mat_sets::{BitSet, ElemSet, Weight};
-use std::alloc::AllocError;
+use std::alloc::{AllocError, Global};
+use std::marker::Model;
+
+/// A set of numbers that have gains. Of each 64 numbers one with the greatest gain is at hand.
+#[derive(Drop)]
+pub(crate) struct Fringe {
+    members: BitSet,
+    gains: Vec<Weight>,
+    tops: Vec<Option<u32>>,
+}
+
+impl Model for Fringe {
+    ghost use Rattle.mat_exchange.specs.Tops.{AreTops, Frontier};
+
+    ghost Value = { Frontier };
+
+    ghost view = { λ f. record { members = f.members; gains = f.gains.items } };
+
+    ghost invariant = { λ f. AreTops f.members f.gains.items f.tops.items };
+}
+
+impl Fringe {
+    /// No numbers yet, of those below n. The only error is want of memory.
+    pub(crate) fn new(alloc: Global, n: u32) -> Result<Fringe, AllocError>
+        ensures members { IfOk result (λ f. f.members ≡ []) }
+        ensures count { IfOk result (λ f. length f.gains ≡ n) }
+    {
+        let members = BitSet::with_capacity(alloc, n)?;
+        let gains = vec![in alloc; Weight::ZERO; n as usize]?;
+        let tops = vec![in alloc; None; n.div_ceil(64) as usize]?;
+        Ok(Fringe {
+            members,
+            gains,
+            tops,
+        })
+    }
+
+    /// Offers a gain to z, which keeps the greatest: an arc to z is relaxed.
+    fn offer(&mut self, z: u32, gain: Weight) -> Result<(), AllocError>
+        requires { z < length self.old.gains }
+        ensures length { length self.new.gains ≡ length self.old.gains }
+        ensures offered { OnOk result (IsOffered (λ v. v == z) (λ v. gain)
+            self.old.members (weight_at self.old.gains) self.new.members (weight_at self.new.gains)) }
+    {
+        offer_one(&mut self.members, &mut self.gains, &mut self.tops, z, gain)
+    }
+
+    /// Takes x out, and seeks the next with the greatest gain of its 64 numbers.
+    pub(crate) fn remove(&mut self, x: u32)
+        requires few { length self.old.gains ≤ most_elements }
+        requires below { x < length self.old.gains }
+        ensures members { self.new.members ≡ without_one self.old.members x }
+        ensures gains { self.new.gains ≡ self.old.gains }
+    {
+        let at = (x / 64) as usize;
+        self.members.remove(x);
+        let top = heaviest_in_bucket(self.members.as_words(), at, self.gains.as_slice());
+        self.tops[at] = top;
+    }
+
+    /// A member with the greatest gain; none where there is no member. The time is that of one number in 64.
+    pub(crate) fn heaviest(&self) -> Option<u32>
+        ensures heaviest { IsHeaviestOrNone (λ x. is_member x self.now.members) (weight_at self.now.gains) result }
+        ensures below { IfSome result (λ x. x < length self.now.gains) }
+    {
+        heaviest_top(self.tops.as_slice(), self.gains.as_slice())
+    }
+
+    /// The gain of x.
+    pub(crate) fn gain(&self, x: u32) -> Weight
+        requires { x < length self.now.gains }
+        ensures { result ≡ weight_at self.now.gains x }
+    {
+        self.gains[x as usize]
+    }
+}
+
+/// Offers a gain to z, which keeps the greatest.
+fn offer_one(
+    members: &mut BitSet,
+    gains: &mut Vec<Weight>,
+    tops: &mut Vec<Option<u32>>,
+    z: u32,
+    gain: Weight,
+) -> Result<(), AllocError>
+    requires below { z < length gains.old.items }
+    requires tops { AreTops members.old gains.old.items tops.old.items }
+    ensures length { length gains.new.items ≡ length gains.old.items }
+    ensures offered { OnOk result (IsOffered (λ v. v == z) (λ v. gain) members.old (weight_at gains.old.items) members.new (weight_at gains.new.items)) }
+    ensures tops { AreTops members.new gains.new.items tops.new.items }
+{
+    if !members.contains(z) {
+        members.insert(z)?;
+        gains[z as usize] = gain;
+        raise_top(tops, z, gains.as_slice());
+    } else if gains[z as usize] < gain {
+        gains[z as usize] = gain;
+        raise_top(tops, z, gains.as_slice());
+    }
+    Ok(())
+}
 
 /// By how much z weighs more than x if `inside`, and x more than z if not.
 fn gain_of(weights: &[Weight], x: u32, z: u32, inside: bool) -> Weight
@@ -29,26 +135,6 @@ fn gain_of(weights: &[Weight], x: u32, z: u32, inside: bool) -> Weight
     }
 }
 
-/// Offers a gain to z, which keeps the greatest: an arc to z is relaxed.
-fn offer_one(
-    fringe: &mut BitSet,
-    gains: &mut [Weight],
-    z: u32,
-    gain: Weight,
-) -> Result<(), AllocError>
-    requires { z < length gains.old }
-    ensures length { length gains.new ≡ length gains.old }
-    ensures offered { OnOk result (IsOffered (λ v. v == z) (λ v. gain) fringe.old (weight_at gains.old) fringe.new (weight_at gains.new)) }
-{
-    if !fringe.contains(z) {
-        fringe.insert(z)?;
-        gains[z as usize] = gain;
-    } else if gains[z as usize] < gain {
-        gains[z as usize] = gain;
-    }
-    Ok(())
-}
-
 /// Offers to each candidate outside the reached set its gain from x, so that the arcs from x are relaxed. The candidates are given as bits.
 pub(crate) fn offer(
     candidates: &[u64],
@@ -56,22 +142,21 @@ pub(crate) fn offer(
     weights: &[Weight],
     x: u32,
     inside: bool,
-    fringe: &mut BitSet,
-    gains: &mut [Weight],
+    fringe: &mut Fringe,
 ) -> Result<(), AllocError>
     requires few { length weights.now ≤ most_elements }
-    requires lengths { length gains.old ≡ length weights.now }
+    requires lengths { length fringe.old.gains ≡ length weights.now }
     requires small { AreWeightsWithin largest_number weights.now }
     requires from_below { x < length weights.now }
     requires others { (v : ℕ) → is_member v others.now ≡ true → v < length weights.now }
-    ensures length { length gains.new ≡ length gains.old }
+    ensures length { length fringe.new.gains ≡ length fringe.old.gains }
     ensures offered { OnOk result (IsOffered (λ v. is_member v (bits_of candidates.now) && is_member v others.now)
-        (gain_at inside (weight_at weights.now) x) fringe.old (weight_at gains.old) fringe.new (weight_at gains.new)) }
+        (gain_at inside (weight_at weights.now) x) fringe.old.members (weight_at fringe.old.gains) fringe.new.members (weight_at fringe.new.gains)) }
 {
     let mut from = 0;
     while let Some(z) = others.next_among(candidates, from) {
         let gain = gain_of(weights, x, z, inside);
-        offer_one(fringe, gains, z, gain)?;
+        fringe.offer(z, gain)?;
         from = z + 1;
     }
     Ok(())
@@ -87,26 +172,25 @@ pub(crate) fn offer_exchanges(
     w2: &[Weight],
     x: u32,
     others: &BitSet,
-    fringe: &mut BitSet,
-    gains: &mut [Weight],
+    fringe: &mut Fringe,
 ) -> Result<(), AllocError>
     requires few { length w1.now ≤ most_elements }
     requires lengths { length w2.now ≡ length w1.now }
-    requires gains { length gains.old ≡ length w1.now }
+    requires gains { length fringe.old.gains ≡ length w1.now }
     requires first_count { length first.now ≡ length w1.now }
     requires second_count { length second.now ≡ length w1.now }
     requires first_small { AreWeightsWithin largest_number w1.now }
     requires second_small { AreWeightsWithin largest_number w2.now }
     requires from_below { x < length w1.now }
     requires others { (v : ℕ) → is_member v others.now ≡ true → v < length w1.now }
-    ensures length { length gains.new ≡ length gains.old }
+    ensures length { length fringe.new.gains ≡ length fringe.old.gains }
     ensures offered { OnOk result (IsOffered (λ v. leads (exchanges_in first.now) (exchanges_in second.now) set.now x v && is_member v others.now)
-        (entry_gain (weight_at w1.now) (weight_at w2.now) set.now x) fringe.old (weight_at gains.old) fringe.new (weight_at gains.new)) }
+        (entry_gain (weight_at w1.now) (weight_at w2.now) set.now x) fringe.old.members (weight_at fringe.old.gains) fringe.new.members (weight_at fringe.new.gains)) }
 {
     if set.contains(x) {
-        offer(first.rest_of_column(x), others, w1, x, true, fringe, gains)
+        offer(first.rest_of_column(x), others, w1, x, true, fringe)
     } else {
-        offer(second.row(x), others, w2, x, false, fringe, gains)
+        offer(second.row(x), others, w2, x, false, fringe)
     }
 }
 

@@ -14,7 +14,7 @@ ghost use Rattle.mat_exchange.specs.{
   HeaviestAddable.{AreGreatestWeights, IsHeaviestWeightOrNone},
 };
 
-use crate::fringe::{change, offer, offer_exchanges, put_back};
+use crate::fringe::{Fringe, change, offer, offer_exchanges, put_back};
 use crate::grown::Grown;
 use crate::heaviest_addable::{GreatestWeights, heaviest_addable, heaviest_with};
 use crate::heaviest_members::heaviest_member;
@@ -22,6 +22,7 @@ use crate::path_search::tight_search_with;
 use crate::row_table::RowTable;
 use crate::slack::excess_or_none;
 use crate::steps::{NextStep, next_step};
+use crate::tight_arcs::is_heaviest;
 use mat_sets::{BitSet, ElemSet, PairWeights, Weight};
 use std::alloc::{AllocError, Global};
 
@@ -31,7 +32,7 @@ struct GrowingReach {
     reached: BitSet,
     others: BitSet,
     // Those of the others that a change of the weights lets in.
-    fringe: BitSet,
+    fringe: Fringe,
 }
 
 /// The two halves of the weights after all changes, and the greatest weights of what can be added under them.
@@ -51,27 +52,25 @@ fn reach_root(
     root: u32,
     w1: &[Weight],
     w2: &[Weight],
-    gains: &mut [Weight],
 ) -> Result<GrowingReach, AllocError>
     requires few { length w1.now ≤ most_elements }
     requires lengths { length w2.now ≡ length w1.now }
-    requires gains { length gains.old ≡ length w1.now }
     requires first_table { IsTableAt (length w1.now) set.now first.now }
     requires second_table { IsTableAt (length w1.now) set.now second.now }
     requires first_small { AreWeightsWithin largest_number w1.now }
     requires second_small { AreWeightsWithin largest_number w2.now }
     requires root { root < length w1.now }
-    ensures length { length gains.new ≡ length gains.old }
+    ensures length { IfOk result (λ g. length g.fringe.gains ≡ length w1.now) }
     ensures reached { IfOk result (λ g. g.reached ≡ with_one [] root) }
     ensures others { IfOk result (λ g. (x : ℕ) → is_member x g.others ≡ (nat_lt x (length w1.now) && not (x == root))) }
-    ensures fringe { IfOk result (λ g. IsFringe g.others g.fringe
-        (IsEntry (exchanges_in first.now) (exchanges_in second.now) (weight_at w1.now) (weight_at w2.now) root g.reached) (weight_at gains.new)) }
+    ensures fringe { IfOk result (λ g. IsFringe g.others g.fringe.members
+        (IsEntry (exchanges_in first.now) (exchanges_in second.now) (weight_at w1.now) (weight_at w2.now) root g.reached) (weight_at g.fringe.gains)) }
     ensures alike { OnOk result (AreAlike (exchanges_in first.now)) }
 {
     let n = w1.len() as u32;
     let mut reached = BitSet::with_capacity(alloc, n)?;
     let mut others = BitSet::all_below(alloc, n)?;
-    let mut fringe = BitSet::with_capacity(alloc, n)?;
+    let mut fringe = Fringe::new(alloc, n)?;
     reached.insert(root)?;
     others.remove(root);
     offer(
@@ -81,19 +80,8 @@ fn reach_root(
         root,
         true,
         &mut fringe,
-        gains,
     )?;
-    offer_exchanges(
-        first,
-        second,
-        set,
-        w1,
-        w2,
-        root,
-        &others,
-        &mut fringe,
-        gains,
-    )?;
+    offer_exchanges(first, second, set, w1, w2, root, &others, &mut fringe)?;
     Ok(GrowingReach {
         reached,
         others,
@@ -103,21 +91,20 @@ fn reach_root(
 
 /// Lets the reached set grow from one source, and changes the weights as it needs, until it holds a sink or nothing can enter it. The
 /// change is one number, which is put on the weights of the whole set only at the end; so the change so far is first undone at an element
-/// that enters, and the gains of the fringe are less by it. The source stays a heaviest addable element of the first matroid, and the
-/// answer is the greatest weight of what can be added in the second.
+/// that enters, and the gains of the fringe are less by it. The source stays a heaviest addable element of the first matroid, and
+/// `top` the greatest weight of what can be added in the second.
 fn grow_from(
     alloc: Global,
     first: &RowTable,
     second: &RowTable,
     set: &ElemSet,
     root: u32,
+    top: Option<Weight>,
     w1: &mut [Weight],
     w2: &mut [Weight],
-    gains: &mut [Weight],
-) -> Result<Option<Weight>, AllocError>
+) -> Result<(), AllocError>
     requires few { length w1.old ≤ most_elements }
     requires lengths { length w2.old ≡ length w1.old }
-    requires gains { length gains.old ≡ length w1.old }
     requires first_table { IsTableAt (length w1.old) set.now first.now }
     requires second_table { IsTableAt (length w1.old) set.now second.now }
     requires root { IsHeaviestOf (exchanges_in first.now).adds (weight_at w1.old) root }
@@ -125,24 +112,24 @@ fn grow_from(
     requires second_gains { NoExchangeGains (exchanges_in second.now) (weight_at w2.old) }
     requires small { (x : ℕ) → x < length w1.old → IsWeightWithin largest_weight (weight_at w1.old x ⊕ weight_at w2.old x) }
     requires second_small { AreWeightsWithin split_room w2.old }
+    requires top { IsHeaviestWeightOrNone (exchanges_in second.now).adds (weight_at w2.old) top }
     ensures first_length { length w1.new ≡ length w1.old }
     ensures second_length { length w2.new ≡ length w2.old }
     ensures grown { OnOk result (IsGrownSplit (length w1.old) (exchanges_in first.now) (exchanges_in second.now)
         (sum_at (weight_at w1.old) (weight_at w2.old)) (weight_at w2.old) (weight_at w1.new) (weight_at w2.new)) }
     ensures root { OnOk result (IsHeaviestOf (exchanges_in first.now).adds (weight_at w1.new) root) }
-    ensures top { IfOk result (IsHeaviestWeightOrNone (exchanges_in second.now).adds (weight_at w2.new)) }
+    ensures top { OnOk result (IsHeaviestWeightOrNone (exchanges_in second.now).adds (weight_at w2.new) top) }
 {
     let GrowingReach {
         mut reached,
         mut others,
         mut fringe,
-    } = reach_root(alloc, first, second, set, root, w1, w2, gains)?;
-    let top = heaviest_addable(second, w2);
+    } = reach_root(alloc, first, second, set, root, w1, w2)?;
     let mut inside = heaviest_with(second, None, root, w2);
     let mut total = Weight::ZERO;
     loop {
         let slack = excess_or_none(top, inside);
-        match next_step(&fringe, gains, slack, total) {
+        match next_step(&fringe, slack) {
             NextStep::Enter(x, step) => {
                 put_back(w1, w2, x, step);
                 total = step;
@@ -150,15 +137,15 @@ fn grow_from(
                 others.remove(x);
                 fringe.remove(x);
                 inside = heaviest_with(second, inside, x, w2);
-                offer_exchanges(first, second, set, w1, w2, x, &others, &mut fringe, gains)?;
+                offer_exchanges(first, second, set, w1, w2, x, &others, &mut fringe)?;
             }
             NextStep::Sink(step) => {
                 change(w1, w2, &reached, step);
-                return Ok(top);
+                return Ok(());
             }
             NextStep::Nothing => {
                 change(w1, w2, &reached, total);
-                return Ok(top);
+                return Ok(());
             }
         }
     }
@@ -188,14 +175,20 @@ fn grow_from_heaviest(
         (sum_at (weight_at w1.old) (weight_at w2.old)) (weight_at w2.old) (weight_at w1.new) (weight_at w2.new)) }
     ensures heaviest { IfOk result (AreGreatestWeights (exchanges_in first.now) (exchanges_in second.now) (weight_at w1.new) (weight_at w2.new)) }
 {
-    let Some(root) = heaviest_member(first.addable_elements(), w1, None) else {
+    let Some(root) = heaviest_member(first.addable_elements(), w1) else {
         return Ok(GreatestWeights {
             first: None,
             second: heaviest_addable(second, w2),
         });
     };
-    let mut gains = vec![in alloc; Weight::ZERO; w1.len()]?;
-    let top = grow_from(alloc, first, second, set, root, w1, w2, &mut gains)?;
+    let top = heaviest_addable(second, w2);
+    if is_heaviest(second, w2, top, root) {
+        return Ok(GreatestWeights {
+            first: Some(w1[root as usize]),
+            second: top,
+        });
+    }
+    grow_from(alloc, first, second, set, root, top, w1, w2)?;
     Ok(GreatestWeights {
         first: Some(w1[root as usize]),
         second: top,

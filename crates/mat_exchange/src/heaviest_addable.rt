@@ -31,7 +31,7 @@ pub(crate) fn heaviest_addable(table: &RowTable, weights: &[Weight]) -> Option<W
     requires few { length weights.now ≤ most_elements }
     ensures { IsHeaviestWeightOrNone (exchanges_in table.now).adds (weight_at weights.now) result }
 {
-    let x = heaviest_member(table.addable_elements(), weights, None)?;
+    let x = heaviest_member(table.addable_elements(), weights)?;
     Some(weights[x as usize])
 }
 

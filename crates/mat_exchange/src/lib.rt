@@ -16,6 +16,7 @@ mod row_table;
 mod slack;
 mod steps;
 mod tight_arcs;
+mod tops;
 mod unfinished_table;
 
 pub use at_set::{

@@ -1,14 +1,14 @@
 //! How a reached set grows next.
-ghost use Rattle.std.specs.Prelude.{◌≡◌, ◌<◌, ◌≤◌, ℕ, true, length};
+ghost use Rattle.std.specs.Prelude.{◌≡◌, ℕ, true};
 ghost use Rattle.mat_sets.specs.{
-  Limits.{most_elements, largest_number},
+  Limits.{largest_number},
   Sets.{is_member},
-  Weights.{zero_weight, ◌⊕◌, ◌≼◌, weight_at, IsWeightWithin},
+  Weights.{weight_at, IsWeightWithin},
 };
 ghost use Rattle.mat_exchange.specs.Growing.{IsNextStep, IsBefore};
 
-use crate::heaviest_members::heaviest_member;
-use mat_sets::{BitSet, Weight};
+use crate::fringe::Fringe;
+use mat_sets::Weight;
 
 /// What the next change of the weights does to the reached set.
 #[derive(Drop)]
@@ -31,28 +31,19 @@ fn is_before(slack: Option<Weight>, step: Weight) -> Option<Weight>
     }
 }
 
-/// The step of least change after the change so far: an element of the fringe, which enters once its gain has risen to 0, or a sink of this
-/// slack. So Dijkstra's algorithm takes the vertex of least key out of its frontier.
-pub(crate) fn next_step(
-    fringe: &BitSet,
-    gains: &[Weight],
-    slack: Option<Weight>,
-    total: Weight,
-) -> NextStep
-    requires few { length gains.now ≤ most_elements }
-    requires below { (x : ℕ) → is_member x fringe.now ≡ true → x < length gains.now }
-    requires small { (x : ℕ) → is_member x fringe.now ≡ true → IsWeightWithin largest_number (weight_at gains.now x) }
-    requires total { IsWeightWithin largest_number total }
-    requires late { (x : ℕ) → is_member x fringe.now ≡ true → (weight_at gains.now x ⊕ total) ≼ zero_weight }
-    ensures { IsNextStep fringe.now (weight_at gains.now) slack result }
+/// The step of least change: an element of the fringe, which enters once its gain has risen to 0, or a sink of this slack. So Dijkstra's
+/// algorithm takes the vertex of least key out of its frontier.
+pub(crate) fn next_step(fringe: &Fringe, slack: Option<Weight>) -> NextStep
+    requires { (x : ℕ) → is_member x fringe.now.members ≡ true → IsWeightWithin largest_number (weight_at fringe.now.gains x) }
+    ensures { IsNextStep fringe.now.members (weight_at fringe.now.gains) slack result }
 {
-    let Some(x) = heaviest_member(fringe, gains, Some(-total)) else {
+    let Some(x) = fringe.heaviest() else {
         return match slack {
             Some(step) => NextStep::Sink(step),
             None => NextStep::Nothing,
         };
     };
-    let step = -gains[x as usize];
+    let step = -fringe.gain(x);
     match is_before(slack, step) {
         Some(earlier) => NextStep::Sink(earlier),
         None => NextStep::Enter(x, step),

@@ -63,7 +63,7 @@ impl Relation for TightArcs<'_> {
 }
 
 /// Whether x can be added and has the greatest weight of those that can.
-fn is_heaviest(table: &RowTable, weights: &[Weight], top: Option<Weight>, x: u32) -> bool
+pub(crate) fn is_heaviest(table: &RowTable, weights: &[Weight], top: Option<Weight>, x: u32) -> bool
     requires table { length table.now ≡ length weights.now }
     requires below { x < length weights.now }
     requires top { IsHeaviestWeightOrNone (exchanges_in table.now).adds (weight_at weights.now) top }

@@ -1,8 +1,8 @@
 -- The invariant gives the bounds that each step requires; the loop enters one element more each time, so that fewer are left, and ends at a
 -- sink or where no change does either.
-use Rattle.std.proofs.Common.{◌∙◌, refl, arith}
+use Rattle.std.proofs.Common.{◌∙◌, ap, length, refl, arith}
 use Rattle.mat_exchange.proofs.GrowthSteps.{growth_start, first_within, second_within, total_within, reached_below, other_below, gains_within}
-use Rattle.mat_exchange.proofs.GrowthSteps.{top_within, inside_within, fewer_left, gains_late, total_fits, reached_few, first_start, others_less}
+use Rattle.mat_exchange.proofs.GrowthSteps.{top_within, inside_within, fewer_left, reached_few, first_start, others_less}
 use Rattle.mat_exchange.proofs.EnteringSteps.{enter_below, enter_within, enter_outside, shifted_entered, entered}
 use Rattle.mat_exchange.proofs.EndingSteps.{sink_within, sunk, sunk_root, sunk_top, ended, ended_root, ended_top}
 use Rattle.mat_exchange.proofs.growth.grow_from.Goals as goal
@@ -14,9 +14,9 @@ pub loop-x-init : goal.loop-x-init
 loop-x-init c =
     growth_start c.requires.few c.requires.first_table c.requires.second_table c.requires.root
     c.requires.first_gains c.requires.second_gains c.requires.small c.requires.second_small refl c.requires.lengths
-    (c.reach_root.ensures.length ∙ c.requires.gains)
+    c.in_ok-reached.ensures.length
     c.in_ok-reached.ensures.reached c.in_ok-reached.ensures.others c.in_ok-reached.ensures.fringe
-    refl c.heaviest_addable-top.ensures c.heaviest_with-inside.ensures
+    refl c.requires.top c.heaviest_with-inside.ensures
 
 pub excess_or_none-slack-requires-clause-small : goal.excess_or_none-slack-requires-clause-small
 excess_or_none-slack-requires-clause-small c = top_within c.loop-x.invariant
@@ -24,14 +24,8 @@ excess_or_none-slack-requires-clause-small c = top_within c.loop-x.invariant
 pub excess_or_none-slack-requires-clause-other_small : goal.excess_or_none-slack-requires-clause-other_small
 excess_or_none-slack-requires-clause-other_small c = inside_within c.loop-x.invariant
 
-pub next_step-requires-clause-small : goal.next_step-requires-clause-small
-next_step-requires-clause-small c = gains_within c.loop-x.invariant
-
-pub next_step-requires-clause-total : goal.next_step-requires-clause-total
-next_step-requires-clause-total c = total_fits c.loop-x.invariant
-
-pub next_step-requires-clause-late : goal.next_step-requires-clause-late
-next_step-requires-clause-late c = gains_late c.loop-x.invariant
+pub next_step-requires : goal.next_step-requires
+next_step-requires c = gains_within c.loop-x.invariant
 
 pub put_back-requires-clause-first_small : goal.put_back-requires-clause-first_small
 put_back-requires-clause-first_small c = first_within c.loop-x.invariant.shifted
@@ -133,5 +127,6 @@ pub loop-x-preserved : goal.loop-x-preserved
 loop-x-preserved c =
     entered c.loop-x.invariant c.excess_or_none-slack.ensures c.in-Enter.is c.next_step.ensures c.put_back.new.w1 c.put_back.new.w2
     c.put_back.ensures.first_length c.put_back.ensures.second_length c.put_back.ensures.first c.put_back.ensures.second
-    c.in_ok-reached.ensures.alike c.in_ok-insert-in-Enter.ensures.ok c.remove.ensures c.remove-in-Enter.ensures c.offer_exchanges.ensures.length
-    c.heaviest_with-inside-in-Enter.ensures c.in_ok-offer_exchanges-in-Enter.ensures.offered
+    c.in_ok-reached.ensures.alike c.in_ok-insert-in-Enter.ensures.ok c.remove.ensures c.remove-in-Enter.ensures.members
+    (c.offer_exchanges.ensures.length ∙ ap length c.remove-in-Enter.ensures.gains)
+    c.heaviest_with-inside-in-Enter.ensures (rw c.remove-in-Enter.ensures.gains at c.in_ok-offer_exchanges-in-Enter.ensures.offered)

@@ -15,7 +15,7 @@ returns-clause-others c = others_start _ _ _ _ c.remove.ensures c.in_ok-others.e
 
 pub returns-clause-fringe : goal.returns-clause-fringe
 returns-clause-fringe c =
-    fringe_of_root c.addable_elements.result.now c.args.w1.now c.args.w2.now c.args.gains.now c.offer.new.gains _
+    fringe_of_root c.addable_elements.result.now c.args.w1.now c.args.w2.now c.in_ok-fringe.fringe.gains c.offer.new.fringe.gains _
     c.requires.first_table c.requires.second_table
     (c.in_ok-insert.ensures.ok ∙ ap (λ s. with_one s c.args.root) c.in_ok-reached.ensures) c.addable_elements.ensures.elements
-    (rw (c.in_ok-fringe.ensures, c.as_words.ensures) at c.in_ok-offer.ensures.offered) c.in_ok-offer_exchanges.ensures.offered
+    (rw (c.in_ok-fringe.ensures.members, c.as_words.ensures) at c.in_ok-offer.ensures.offered) c.in_ok-offer_exchanges.ensures.offered

@@ -1,33 +1,36 @@
-use Rattle.std.proofs.Common.{◌*◌, ◌+◌, inl, inr, length, ap, sym, subst, arith, ◌∙◌}
-use Rattle.std.proofs.lemmas.Bool.{cases_lt, false_from_ne_true}
+use Rattle.std.proofs.Common.{◌*◌, ap, sym, subst, arith, ◌∙◌}
+use Rattle.std.proofs.lemmas.Bool.{false_from_ne_true}
 use Rattle.mat_sets.specs.Sets.{is_member}
 use Rattle.mat_sets.specs.Weights.{weight_at}
-use Rattle.mat_sets.proofs.Bits.{none_past}
-use Rattle.mat_exchange.specs.HeaviestMembers.{IsHeaviestToOrNone}
-use Rattle.mat_exchange.proofs.HeaviestMembers.{heaviest_at_bound, heaviest_to_all}
+use Rattle.mat_exchange.specs.Growing.{IsHeaviestOrNone}
+use Rattle.mat_exchange.specs.HeaviestMembers.{in_bucket}
+use Rattle.mat_exchange.proofs.HeaviestMembers.{bucket_parts, heaviest_below, heaviest_to_all, heaviest_to_below, heaviest_to_bucket}
 use Rattle.mat_exchange.proofs.heaviest_members.heaviest_member.Goals as goal
 
-pub heaviest_to_word-heaviest-requires-clause-starts : goal.heaviest_to_word-heaviest-requires-clause-starts
-heaviest_to_word-heaviest-requires-clause-starts c = omega arith
+pub heaviest_in_bucket-top-requires-clause-starts : goal.heaviest_in_bucket-top-requires-clause-starts
+heaviest_in_bucket-top-requires-clause-starts c = omega arith
 
-pub heaviest_to_word-heaviest-requires-clause-below : goal.heaviest_to_word-heaviest-requires-clause-below
-heaviest_to_word-heaviest-requires-clause-below c = λ x m. c.requires.below x (ap (is_member x) (sym c.as_words-words.ensures) ∙ m)
+pub heaviest_in_bucket-top-requires-clause-below : goal.heaviest_in_bucket-top-requires-clause-below
+heaviest_in_bucket-top-requires-clause-below c = λ x m. c.requires.below x (ap (is_member x) (sym c.as_words-words.ensures) ∙ m)
 
-pub heaviest_to_word-heaviest-requires-clause-before : goal.heaviest_to_word-heaviest-requires-clause-before
-heaviest_to_word-heaviest-requires-clause-before c = rw c.as_words-words.ensures c.loop-at.invariant
+pub heavier_of_both-heaviest-requires-clause-heaviest : goal.heavier_of_both-heaviest-requires-clause-heaviest
+heavier_of_both-heaviest-requires-clause-heaviest c = heaviest_to_below _ _ _ _ _ c.requires.below c.loop-at.invariant
 
-pub returns-then-ends_search : goal.returns-then-ends_search
-returns-then-ends_search c =
+pub heavier_of_both-heaviest-requires-clause-other : goal.heavier_of_both-heaviest-requires-clause-other
+heavier_of_both-heaviest-requires-clause-other c =
+    heaviest_below _ _ _ _ (λ x k. c.requires.below x (ap (is_member x) (sym c.as_words-words.ensures) ∙ (bucket_parts _ _ x k).0))
+    c.heaviest_in_bucket-top.ensures
+
+pub loop-at-preserved : goal.loop-at-preserved
+loop-at-preserved c =
     let w = weight_at c.args.weights.now in
-    let found = subst (λ set. IsHeaviestToOrNone (λ x. is_member x set) w (c.loop-at.at * 64 + 64) c.heaviest_to_word-heaviest.result)
-    c.as_words-words.ensures c.heaviest_to_word-heaviest.ensures in
-    heaviest_at_bound _ _ _ _ _ found c.requires.bound (c.ends_search.ensures c.if-ends_search.true)
+    let at = c.loop-at.at in
+    let top = subst (λ set. IsHeaviestOrNone (in_bucket set at) w c.heaviest_in_bucket-top.result) c.as_words-words.ensures
+    c.heaviest_in_bucket-top.ensures in
+    rw c.heavier_of_both-heaviest.ensures (heaviest_to_bucket c.args.members.now w at c.loop-at.heaviest c.heaviest_in_bucket-top.result
+    c.loop-at.invariant top)
 
 pub returns : goal.returns
 returns c =
-    let words = c.as_words-words.result.now in
-    let at = c.loop-at.at in
-    heaviest_to_all (λ x. is_member x c.args.members.now) (weight_at c.args.weights.now) (at * 64) c.loop-at.heaviest (λ x le. elim (cases_lt x (64 * length words)) [
-      | inr past ↦ ap (is_member x) (sym c.as_words-words.ensures) ∙ none_past words x past x (omega arith)
-      | inl before ↦ false_from_ne_true (is_member x c.args.members.now) (λ m. omega (arith, c.requires.below x m))
-    ]) c.loop-at.invariant
+    heaviest_to_all (λ x. is_member x c.args.members.now) (weight_at c.args.weights.now) (c.loop-at.at * 64) c.loop-at.heaviest
+    (λ x le. false_from_ne_true (is_member x c.args.members.now) (λ m. omega (arith, c.requires.below x m))) c.loop-at.invariant
