@@ -1,3 +1,4 @@
+-- Members are distinct, so each weight is added once to what stood there before; the sum stays within the bounds that the call asks for.
 use mir.Syntax.{w128}
 use Rattle.std.proofs.Common.{◌≡◌, ◌∙◌, ◌<◌, get_or, length, pos, arith, to_z, of_z}
 use Rattle.std.proofs.lemmas.Int.{ints, to_z-of_z}

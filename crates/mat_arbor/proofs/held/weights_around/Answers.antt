@@ -1,3 +1,4 @@
+-- A next set adds its weight at the vertices that it holds, and at no other; the sums stay small, since there are few sets.
 use mir.Syntax.{w128}
 use Rattle.std.proofs.Common.{◌≡◌, ◌∙◌, ◌^◌, take, sym, ap, subst, arith, to_z, of_z}
 use Rattle.std.proofs.lemmas.Int.{ints}

@@ -1,3 +1,4 @@
+-- Each turn packs one arborescence more and leaves enough live arcs for the others; a vertex set that too few arcs enter shows that no packing exists.
 use Rattle.std.proofs.Common.{◌∙◌, length, ap, arith}
 use Rattle.mat_sets.specs.Graphs.{ends_of}
 use Rattle.mat_sets.specs.Sets.{all_below}

@@ -1,3 +1,4 @@
+-- An arc that leaves the reached vertices and can be spared is taken: the tree grows by it and its head, until all vertices are reached.
 use Rattle.std.proofs.Common.{◌∙◌, ◌+◌, length, ap, subst, sym, arith}
 use Rattle.mat_sets.specs.Graphs.{ends_of}
 use Rattle.mat_sets.specs.Sets.{with_one, without_one}

@@ -1,3 +1,4 @@
+-- Each line adds a job behind those so far; a fault of a line, or one line too many, is the fault of the whole list.
 use Rattle.std.proofs.Common.{◌-◌, map, length-append, arith}
 use Rattle.std.proofs.lemmas.List.{map_push}
 use Rattle.std.proofs.lemmas.Result.{err_from_is_err_and}

@@ -1,3 +1,4 @@
+-- None of the sets at the places so far is full; the first full one answers the question.
 use Rattle.std.proofs.Common.{◌≡◌, true, false, not, eqb, refl, sym, ap, ◌∙◌, length, get_or}
 use Rattle.std.proofs.lemmas.Bool.{and_from, both_ways, eqb-true, false_from_ne_true, le-leb, lt-leb}
 use Rattle.std.proofs.lemmas.List.{take_all}

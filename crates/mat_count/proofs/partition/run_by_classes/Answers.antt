@@ -1,3 +1,4 @@
+-- The counters hold how many elements of the set so far each class has; an element enters if its class is not full.
 use Rattle.std.proofs.Common.{◌≡◌, not, length, get_or, replicate, rules, refl, sym, ap, ◌∙◌, arith, None}
 use Rattle.std.proofs.lemmas.Result.{IfOk-weaker}
 use Rattle.mat_sets.proofs.Steps.{written_back}

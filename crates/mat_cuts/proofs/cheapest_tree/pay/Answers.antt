@@ -1,3 +1,4 @@
+-- The least of the arcs that enter the set costs no more than any of them, so its cost can be taken from all; where it is 0, nothing is to be paid.
 use mir.Syntax.{w128}
 use Rattle.std.proofs.Common.{◌≡◌, ◌∙◌, pos, inr, subst, arith, to_z, of_z}
 use Rattle.std.proofs.lemmas.Int.{ints}

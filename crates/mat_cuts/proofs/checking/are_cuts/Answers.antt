@@ -1,3 +1,4 @@
+-- The sets so far are cuts with weights above 0; one that holds the root, or has no weight, is no cut.
 use Rattle.std.proofs.Common.{◌<ℤ◌, pos, refl, sym, subst, arith}
 use Rattle.std.proofs.lemmas.Bool.{false≢true}
 use Rattle.std.proofs.lemmas.Int.{ints}

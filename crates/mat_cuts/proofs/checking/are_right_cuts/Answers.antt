@@ -1,3 +1,4 @@
+-- The cuts are right if each is a cut, no arc pays more than its cost, and the weights add up to the cost of the tree.
 use mir.Syntax.{w128}
 use mir.Val.{SFits}
 use Rattle.std.proofs.Common.{◌∙◌, refl, sym, ap, arith, rules, to_z, of_z}

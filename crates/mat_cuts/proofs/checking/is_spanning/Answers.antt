@@ -1,3 +1,4 @@
+-- The reached vertices grow by one at each arc of the tree that leaves them; where none leaves them too early, the tree does not span.
 use Rattle.std.proofs.Common.{None, length, refl, subst, arith}
 use Rattle.std.proofs.lemmas.Bool.{false≢true}
 use Rattle.mat_sets.specs.Graphs.{ends_of}

@@ -1,3 +1,4 @@
+-- The vertices so far that had a later place have the place `to`, and all others have kept theirs.
 use Rattle.std.proofs.Common.{◌≡◌, ◌<◌, ◌∙◌, length, refl, inl, inr, arith, get_or}
 use Rattle.std.proofs.lemmas.Grind.{get_or_default_zero}
 use Rattle.mat_cuts.proofs.Loops.{falls-outside, falls-within, AreFalling-end, AreFalling-keep, AreFalling-set}

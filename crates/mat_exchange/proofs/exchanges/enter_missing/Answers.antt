@@ -1,3 +1,4 @@
+-- A member of the set has no row, nor has an element that can be added; the row of any other element is that of its circuit.
 use Rattle.std.proofs.Common.{◌≡◌, ◌∙◌, refl, sym, ap, subst}
 use Rattle.std.proofs.lemmas.Bool.{cond-true}
 use Rattle.mat_sets.specs.Sets.{AllBelow, is_member}

@@ -1,3 +1,4 @@
+-- The missing rows are entered element by element, so the table is filled up to the element that comes next.
 use Rattle.std.proofs.Common.{◌≡◌, ◌<◌, ◌∙◌, false, [], length, sym, subst, arith}
 use Rattle.std.proofs.lemmas.List.{get_or_default}
 use Rattle.mat_sets.specs.Sets.{AllBelow}

@@ -1,3 +1,4 @@
+-- Rows whose elements and members stay are those at the next set too; all others are missing again.
 use Rattle.std.proofs.Common.{length, ap, sym, subst, ◌∙◌, arith}
 use Rattle.mat_sets.specs.Sets.{AllBelow, minus}
 use Rattle.mat_sets.proofs.Ground.{AllBelow-subset}

@@ -1,3 +1,4 @@
+-- What is left of the path ends at the vertex that comes next; each step takes one link out, so fewer are left.
 use Rattle.std.proofs.Common.{◌≡◌, length, rules, vec_len, subst, sym, arith}
 use Rattle.mat_flow.specs.LinkTables.{HasPathLeft}
 use Rattle.mat_flow.proofs.LinkTables.{entry_of, none_from}

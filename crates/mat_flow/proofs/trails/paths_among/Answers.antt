@@ -1,3 +1,4 @@
+-- A vertex without one before it begins a path, which is listed; the others are passed over.
 use Rattle.std.proofs.Common.{◌+◌, ◌∙◌, List, ℕ, Vec, Global, length, get_or, take, subst, sym, arith}
 use Rattle.mat_sets.proofs.Sums.{AllBelow-at}
 use Rattle.mat_flow.proofs.LinkTables.{entry_inside, some_is_one}

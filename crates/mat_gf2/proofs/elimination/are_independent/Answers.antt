@@ -1,3 +1,4 @@
+-- The columns from the last member on are reduced to a basis; a column of which nothing is left is a sum of later ones.
 use Rattle.std.proofs.Common.{◌≡◌, ◌∙◌, ◌-◌, sym, ap, subst, drop, [], arith}
 use Rattle.mat_gf2.specs.Columns.{IsLinearlyIndependent, column_of}
 use Rattle.mat_gf2.specs.Eliminations.{reduced_by}

@@ -1,3 +1,4 @@
+-- The basis is that of the set so far: an element enters if something is left of its column, and else it is a sum of members.
 use Rattle.std.proofs.Common.{◌∙◌, true, false, length, refl, ap, slice_index_or}
 use Rattle.std.proofs.lemmas.Result.{IfOk-weaker}
 use Rattle.mat_sets.proofs.Sums.{AllBelow-at}

@@ -1,3 +1,4 @@
+-- The table has the components of the edges so far, from the last to the first; an edge within a component closes a circuit.
 use Rattle.std.proofs.Common.{◌≡◌, ◌-◌, length, drop, sym, subst, arith}
 use Rattle.mat_sets.specs.Graphs.{ends_of}
 use Rattle.mat_sets.proofs.Sums.{AllBelow-at}

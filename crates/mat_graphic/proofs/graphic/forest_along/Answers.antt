@@ -1,3 +1,4 @@
+-- The table has the components of the set so far; an edge enters if its ends lie in two of them.
 use Rattle.std.proofs.Common.{◌≡◌, if◌then◌else◌, length, get_or, refl, ◌∙◌, subst, sym}
 use Rattle.std.proofs.lemmas.Result.{IfOk-weaker}
 use Rattle.mat_sets.specs.Graphs.{ends_of}

@@ -1,3 +1,4 @@
+-- All vertices so far are found, each by a search from it or from an earlier one.
 use Rattle.std.proofs.Common.{◌≡◌, true, inl, inr, length, subst, sym, arith, ◌∙◌}
 use Rattle.std.proofs.lemmas.Bool.{cases_lt}
 use Rattle.mat_sets.specs.Sets.{is_member}

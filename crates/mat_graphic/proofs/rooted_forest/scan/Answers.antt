@@ -1,3 +1,4 @@
+-- Each edge at the vertex finds its other end, or leads to a vertex that was found before.
 use Rattle.std.proofs.Common.{◌<◌, suc, length, get_or, refl, sym, subst, arith}
 use Rattle.mat_sets.specs.Search.{IsNextFrom}
 use Rattle.mat_sets.proofs.Sums.{AllBelow-at}

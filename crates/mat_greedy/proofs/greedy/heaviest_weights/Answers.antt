@@ -1,3 +1,4 @@
+-- The sum is the weight of the members so far, which by the greedy algorithm are a heaviest set of their size.
 use Rattle.std.proofs.Common.{◌≡◌, [], refl, sym, ap, ◌∙◌, subst, arith}
 use Rattle.mat_sets.specs.Weights.{weight_at}
 use Rattle.mat_laws.specs.GreedyRuns.{grown_along}

@@ -1,3 +1,4 @@
+-- The run along an independent set takes all of it, so the table links all its members; the graph turned round belongs to it.
 use Rattle.std.proofs.Common.{[], ◌∙◌, length, subst, sym, ap}
 use Rattle.std.proofs.lemmas.Result.{IfOk-weaker}
 use Rattle.mat_sets.specs.Sets.{AllBelow, AreDistinct}

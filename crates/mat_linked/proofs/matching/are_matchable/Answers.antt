@@ -1,3 +1,4 @@
+-- The elements so far are matched; a search that comes to no free set shows that the next one cannot be matched with them.
 use Rattle.std.proofs.Common.{◌≡◌, ◌∙◌, ap, length, arith, replicate, rules, None}
 use Rattle.std.proofs.lemmas.List.{length-replicate}
 use Rattle.mat_sets.proofs.Sums.{AllBelow-at}

@@ -1,3 +1,4 @@
+-- The set so far is matched; an element enters if it can be matched beside the members.
 use Rattle.std.proofs.Common.{◌≡◌, if◌then◌else◌, ap, length, get_or, replicate, None, refl, ◌∙◌, arith, rules}
 use Rattle.std.proofs.lemmas.List.{length-replicate}
 use Rattle.mat_sets.specs.Sets.{with_one}

@@ -1,3 +1,4 @@
+-- An element outside the kept base can be added; one of the base can be added if its column has a member outside the set.
 use Rattle.std.proofs.Common.{not, inl, inr, refl, sym, ap, subst, ◌∙◌}
 use Rattle.std.proofs.lemmas.Bool.{both_ways, cases_Bool}
 use Rattle.mat_sets.specs.Sets.{IsRising}

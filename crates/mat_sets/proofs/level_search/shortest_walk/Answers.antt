@@ -1,3 +1,4 @@
+-- Each round finds the next level; a goal on it gives a walk of fewest vertices, and an empty level shows that all reached vertices are found.
 use Rattle.std.proofs.Common.{arith, rules, sym, ap, not, replicate, length, ◌&&◌, ◌∙◌, ◌≡◌, ltb}
 use Rattle.std.proofs.lemmas.Bool.{both_ways, eq-eqb, eqb-true}
 use Rattle.mat_sets.specs.Sets.{all_below, is_member}

@@ -1,3 +1,4 @@
+-- The items so far are none of the other list, whose items before place j are all smaller than the next one.
 use Rattle.std.proofs.Common.{refl, sym, ap, ◌∙◌, arith, get_or, take_all}
 use Rattle.std.proofs.lemmas.Bool.{both_ways, false≢true}
 use Rattle.mat_sets.specs.Sets.{intersection}

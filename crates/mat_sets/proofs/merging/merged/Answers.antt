@@ -1,3 +1,4 @@
+-- The smaller of the two next items goes to the end, and equal ones go there once; when one list ends, the rest of the other follows.
 use Rattle.std.proofs.Common.{◌≡◌, ◌++◌, drop, ◌∙◌, arith}
 use Rattle.mat_sets.specs.Sets.{union}
 use Rattle.mat_sets.proofs.UnionWalks.{IsMerging-start, IsMerging-first, IsMerging-second, IsMerging-both}

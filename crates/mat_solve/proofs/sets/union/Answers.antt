@@ -1,3 +1,4 @@
+-- Unions are sound and have few elements; the heaviest sets of the union, with their weights and cut, are a right answer.
 use Rattle.std.proofs.Common.{length, map, sym}
 use Rattle.mat_union.specs.RightUnions.{IsRightUnion}
 use Rattle.mat_any.specs.Trees.{is_independent}

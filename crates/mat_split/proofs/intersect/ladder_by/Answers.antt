@@ -1,3 +1,4 @@
+-- Each turn adds a rung with one element more and the tables at its set; where no larger set exists, the cut ends the ladder.
 use Rattle.std.proofs.Common.{◌≡◌, subst, sym}
 use Rattle.mat_laws.specs.Exchanges.{rows_of}
 use Rattle.mat_split.specs.Augmenting.{IsAugmented}

@@ -1,3 +1,4 @@
+-- A job that cannot be read refuses the call; where all are read, the texts are those of right answers, in the order of the list.
 use Rattle.std.proofs.Common.{map, sym, subst}
 use Rattle.std.proofs.lemmas.Result.{err_from_is_err_and}
 use Rattle.mat_top.specs.LoadedJobs.{AreLoaded, AreUnloaded, HaveTexts}

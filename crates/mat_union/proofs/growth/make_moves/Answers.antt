@@ -1,3 +1,4 @@
+-- The parts so far are those after all moves, with what is kept of them; a part that no move enters or leaves stays as it is.
 use Rattle.std.proofs.Common.{◌+◌, ◌<◌, ◌∙◌, arith, length, refl, subst, sym}
 use Rattle.mat_union.specs.GrownParts.{AreKept}
 use Rattle.mat_union.specs.Moves.{all_moved}

@@ -1,3 +1,4 @@
+-- Each question tells one row of exchanges, so fewer are left; the search ends at an element that a part can take, or with all that it reaches.
 use Rattle.std.proofs.Common.{◌<◌, length, map, arith, subst, sym}
 use Rattle.mat_union.specs.Moves.{exchanges_with}
 use Rattle.mat_union.specs.MoveSearches.{IsReaching}

@@ -1,3 +1,4 @@
+-- The rung and the cut of a right answer are in range, and both matroids have witnesses; what is made of them shows the rung.
 use Rattle.std.proofs.lemmas.Result.{IfOk-weaker}
 use Rattle.mat_any.specs.Views.{tree_of}
 use Rattle.mat_witness.specs.Views.{witness_parts}

@@ -1,3 +1,4 @@
+-- Each word adds a weight behind those so far; a fault of a word is the fault of the whole list.
 use Rattle.std.proofs.Common.{◌≡◌, arith}
 use Rattle.std.proofs.lemmas.Result.{err_from_is_err_and}
 use Rattle.std.proofs.lemmas.Int.{ints}

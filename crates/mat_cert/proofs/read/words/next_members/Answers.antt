@@ -1,3 +1,4 @@
+-- Each number that is read goes behind the set so far if it is larger; a fault, or a number that does not rise, is the fault of the whole list.
 use Rattle.std.proofs.Common.{◌≡◌, ◌∙◌, sym, []}
 use Rattle.std.proofs.lemmas.Result.{err_from_is_err_and}
 use Rattle.mat_words.specs.Cursors.{parts_left, words_left}

@@ -1,3 +1,4 @@
+-- The clauses come in turn: the sums of the halves, then whether the set is beaten under the first half, then under the second.
 use Rattle.std.proofs.Common.{◌≡◌, ◌∙◌, ℕ, Bool, List, ap, length, map, sym}
 use Rattle.mat_sets.specs.Sets.{all_below}
 use Rattle.mat_sets.specs.Weights.{weight_at}

@@ -1,3 +1,4 @@
+-- The pairs and weights so far, put side by side, are what is read of the lines so far; a fault of a line is the fault of all.
 use Rattle.std.proofs.Common.{◌≡◌, ◌++◌, ◌∷◌, [], length, arith}
 use Rattle.std.specs.List.{zip}
 use Rattle.std.proofs.lemmas.Result.{err_from_is_err_and}

@@ -1,3 +1,4 @@
+-- Each word adds its element to the set; a fault of a word, or an element that the set has already, is the fault of the line.
 use Rattle.std.proofs.Common.{◌≡◌, ◌∙◌, sym, []}
 use Rattle.std.proofs.lemmas.Result.{err_from_is_err_and}
 use Rattle.mat_words.specs.Cursors.{parts_left, words_left}

@@ -1,3 +1,4 @@
+-- Each word adds its element to the set; a fault of a word, or an element that is taken already, is the fault of the line.
 use Rattle.std.proofs.Common.{◌≡◌, ◌∙◌, sym, []}
 use Rattle.std.proofs.lemmas.Result.{err_from_is_err_and}
 use Rattle.std.proofs.lemmas.Bool.{not-true, not-false}

@@ -1,3 +1,4 @@
+-- The search back from the vertex reaches the ends that can give way to it; where it meets a source, a path more is found.
 use Rattle.std.proofs.Common.{[], ◌∙◌, ap, refl, Some, subst}
 use Rattle.std.proofs.lemmas.Bool.{both_ways}
 use Rattle.mat_sets.specs.Sets.{all_below}

@@ -1,3 +1,4 @@
+-- A column that fails a parity check is no sum of columns of the set; one that passes all is such a sum if nothing is left of it.
 use Rattle.std.proofs.Common.{◌≡◌, ◌∙◌, true, false, not, inl, inr, refl, sym, ap, get_or}
 use Rattle.std.proofs.lemmas.Bool.{cases_eq, eq-eqb, ne_eqb}
 use Rattle.std.specs.List.{list_any}

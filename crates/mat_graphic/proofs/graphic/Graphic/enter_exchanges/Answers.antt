@@ -1,3 +1,4 @@
+-- An edge between two trees enters all columns; one within a tree enters those of the trail between its ends.
 use Rattle.std.proofs.Common.{◌∙◌, length, subst, sym}
 use Rattle.std.proofs.lemmas.Result.{on_ok_weaker}
 use Rattle.mat_sets.specs.Graphs.{ends_of}

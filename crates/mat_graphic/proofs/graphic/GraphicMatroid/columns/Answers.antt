@@ -1,3 +1,4 @@
+-- Each edge outside the base is entered in the columns of the members that it can be exchanged for; those of the edges so far are complete.
 use Rattle.std.proofs.Common.{◌<◌, [], length, refl, subst, sym, ap, ◌∙◌, arith}
 use Rattle.std.proofs.lemmas.List.{length-replicate}
 use Rattle.mat_sets.specs.Graphs.{ends_of}

@@ -1,3 +1,4 @@
+-- The new edge is one of the graph, so its ends are vertices that the forest has found; the forest with it is one of the next set.
 use Rattle.std.proofs.Common.{◌||◌, eqb, length, refl, sym, ap, ◌∙◌}
 use Rattle.std.proofs.lemmas.Bool.{eq-eqb, or_left}
 use Rattle.mat_sets.specs.Graphs.{ends_of}

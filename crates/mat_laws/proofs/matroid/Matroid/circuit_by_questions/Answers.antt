@@ -1,3 +1,4 @@
+-- Each member is taken out in turn: x can take its place if the rest with x is independent.
 use Rattle.std.proofs.Common.{◌∙◌, subst, sym, ap, length, get_or, ◌<◌, ◌≤◌}
 use Rattle.mat_sets.specs.Sets.{AllBelow, with_one, without_one}
 use Rattle.mat_sets.proofs.Changes.{AllBelow-with_one}

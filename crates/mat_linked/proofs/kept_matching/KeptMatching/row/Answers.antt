@@ -1,3 +1,4 @@
+-- The search ends at a free set, so that x can be added, or comes to an end; then x can take the place of the members that it reached.
 use Rattle.std.proofs.Common.{◌≡◌, ◌∙◌, ap, length, sym, vec_len, rules, subst, arith}
 use Rattle.std.proofs.lemmas.Bool.{and_parts}
 use Rattle.mat_sets.proofs.Ground.{AllBelow-from_members}

@@ -1,3 +1,4 @@
+-- The row tells which members of the part can give way to the element: those that were not reached are reached now, from it.
 use Rattle.std.proofs.Common.{◌≡◌, ◌∙◌, ◌+◌, ◌||◌, suc, refl, sym, ap, arith, length}
 use Rattle.std.proofs.Math.Numerals.{add-one}
 use Rattle.std.proofs.lemmas.Bool.{both_ways}

@@ -1,3 +1,4 @@
+-- A set that the marked elements fill is named for its members; any other set leaves the names as they are.
 use Rattle.std.proofs.Common.{rules, ◌≡◌, ◌+◌, None, length, replicate, ap, ◌∙◌, sym, subst}
 use Rattle.std.proofs.lemmas.List.{length-replicate}
 use Rattle.mat_sets.proofs.Steps.{written_back}

@@ -1,3 +1,4 @@
+-- For the members so far the larger of the set and of the one named before is named; all other entries are as before.
 use Rattle.std.proofs.Common.{◌<◌, ◌+◌, Some, [], length, get_or, take, refl, sym, ◌∙◌, subst}
 use Rattle.std.proofs.lemmas.List.Elements.{All-set}
 use Rattle.std.specs.Prelude.{IfSome}

@@ -1,3 +1,4 @@
+-- Each word adds a number behind those so far; a fault of a word is the fault of the whole list.
 use Rattle.std.proofs.Common.{◌∙◌, sym, length}
 use Rattle.std.proofs.lemmas.Result.{err_from_is_err_and}
 use Rattle.mat_words.specs.Cursors.{parts_left, words_left}

@@ -1,3 +1,4 @@
+-- Of the two parts one bounds the rank outside the cut, the other that of the cut; where both do, their sum is compared with the number.
 use Rattle.std.proofs.Common.{◌≡◌, ℕ, ◌+◌, ◌<◌, ◌≤◌, Bool, ◌&&◌, if◌then◌else◌, leb, List, [], ◌∷◌, length, get_or, map, Some, None}
 use Rattle.std.proofs.Common.{sym, ap, ◌∙◌, subst, arith}
 use Rattle.std.proofs.lemmas.Option.{cond_some}

@@ -1,3 +1,4 @@
+-- The numbers so far tell their members; one that does not fails the whole.
 use Rattle.std.proofs.Common.{◌≡◌, true, eqb, length, get_or, sym, ◌∙◌, arith}
 use Rattle.std.proofs.lemmas.Bool.{and_from, and_right, eq-eqb}
 use Rattle.mat_gf2.specs.Columns.{column_of}

@@ -1,3 +1,4 @@
+-- The clauses come in turn: the lists are paths from sources, they end at the members, and no vertex is in two places.
 use Rattle.std.proofs.Common.{◌≡◌, ℕ, Bool, true, false, List, map, sym, ap, ◌∙◌}
 use Rattle.std.proofs.lemmas.Bool.{not-false, not-true}
 use Rattle.std.proofs.lemmas.Result.{IfOk-weaker}
