@@ -27,6 +27,7 @@ use Rattle.mat_any.specs.Views.{tree_of}
 use Rattle.mat_any.proofs.rows.+rows.Goals as goal
 use Rattle.mat_any.proofs.rows.+rows.Goals.{truncation_row-then-exchange, truncation_row-else-exchange}
 
+-- the dual of a dual: the row of the matroid within both
 pub dual_of_dual_row-row-requires : goal.dual_of_dual_row-row-requires
 dual_of_dual_row-row-requires t c =
     let base = c.args.base.now in
@@ -48,6 +49,7 @@ dual_of_dual_row-returns-in-Dual-clause-row t c =
     let test = test_within _ _ node c.requires.sound in
     IfOk-weaker c.row.result _ _ (λ e told. told ∙ ap (λ p. row_of p c.args.base.now c.args.x) (sym test)) c.row.ensures.row
 
+-- a truncation: the row of the matroid within; an element can be added only below the cap
 pub truncation_row-returns-clause-row : goal.truncation_row-returns-clause-row
 truncation_row-returns-clause-row t c =
     let cap = c.args.cap in
@@ -62,6 +64,7 @@ truncation_row-returns-clause-row t c =
     ])
     refl
 
+-- a restriction: the row of the matroid within, for an element that is kept
 pub restriction_row-returns-then-not-contains-clause-row : goal.restriction_row-returns-then-not-contains-clause-row
 restriction_row-returns-then-not-contains-clause-row t c =
     restricted_row_outside (is_independent (tree_of c.args.inner.now)) c.args.elements.now c.args.base.now c.args.x _ c.requires.outside
@@ -74,6 +77,7 @@ restriction_row-returns-clause-row t c =
     let here = sym c.contains.ensures.found ∙ c.if-not-contains.false in
     IfOk-weaker _ _ _ (λ row told. restricted row c.requires.base c.requires.outside here told) c.row.ensures.row
 
+-- a contraction: the row at the set together with the chosen elements, without these
 pub contraction_row-returns-then-contains-clause-row : goal.contraction_row-returns-then-contains-clause-row
 contraction_row-returns-then-contains-clause-row t c =
     let tree = tree_of c.args.inner.now in
@@ -117,6 +121,7 @@ contraction_row-returns-clause-row t c =
     (c.in_ok-exchange.ensures.row ∙ ap (λ J. row_of (is_independent tree) J c.args.x) c.requires.joined)
     refl c.in_ok-minus.ensures.members
 
+-- a union: what the function on its parts promises
 pub row-union_row-requires : goal.row-union_row-requires
 row-union_row-requires t c =
     let at = c.in-Union-Union in
@@ -149,6 +154,7 @@ row-returns-in-Union-Union-clause-row t c =
     (λ (e : Exchange). e ≡ row_of (is_independent (tree_of c.args.matroid.now)) c.args.base.now c.args.x)
     (λ e told. told ∙ ap (λ p. row_of p c.args.base.now c.args.x) (sym test)) c.union_row.ensures.row
 
+-- the search for moves between the parts of a union, to its end
 pub search_from-loop-asked-init : goal.search_from-loop-asked-init
 search_from-loop-asked-init t c =
     let ms = c.args.matroids.now in
@@ -211,6 +217,7 @@ search_from-returns-clause-ended t c =
 pub search_from-new-requires-clause-among : goal.search_from-new-requires-clause-among
 search_from-new-requires-clause-among t c = λ v h. subst (λ k. v < k) (sym c.common_size_of-n.ensures) (c.requires.among v h)
 
+-- the row of a union, by that search
 pub union_row-search_from-requires : goal.union_row-search_from-requires
 union_row-search_from-requires t c =
     let n = size_in c.args.matroids.now in

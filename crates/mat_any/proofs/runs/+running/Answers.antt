@@ -51,6 +51,7 @@ use Rattle.mat_any.specs.Views.{tree_of}
 use Rattle.mat_any.proofs.runs.+running.Goals as goal
 use Rattle.mat_any.proofs.runs.+running.Goals.{make_moves-then-is_entered_or_left+in_ok-next+in_ok-one, make_moves-else-is_entered_or_left, take_turn-then-stands-via-then-stands, take_turn-then-stands-via-else-stands+then-not-contains}
 
+-- the dual of a dual runs as the matroid within both
 pub dual_run-run-requires : goal.dual_run-run-requires
 dual_run-run-requires t c =
     let node = ap tree_of c.in-Dual.is ∙ ap (λ m. dual (tree_of m)) (sym c.deref.ensures) in (
@@ -64,12 +65,14 @@ dual_run-returns-in-Dual t c =
     let test = test_within _ _ node c.requires.sound in
     IfOk-weaker c.run.result _ _ (λ s told. told ∙ ap (λ p. grown_along p [] c.args.order.now) (sym test)) c.run.ensures
 
+-- the dual of a dual keeps what the matroid within both keeps
 pub dual_keep-keep-requires : goal.dual_keep-keep-requires
 dual_keep-keep-requires t c =
     let node = ap tree_of c.in-Dual.is ∙ ap (λ m. dual (tree_of m)) (sym c.deref.ensures) in
     let test = test_within _ _ node c.requires.sound in
     (search (rules, the_lemmas), (sound_within _ _ node c.requires.sound, ap (λ p. p c.args.set.now) (sym test) ∙ c.requires.base))
 
+-- and what that keeps of the next set
 pub dual_next-returns-in-Some : goal.dual_next-returns-in-Some
 dual_next-returns-in-Some t c =
     kept_of_next c.args._base.now c.args.next.now c.args.kept.now _ c.requires.kept (sym c.in-Some.is ∙ c.in_ok-same.ensures)
@@ -89,6 +92,7 @@ dual_of_dual_next-keep_next-requires t c =
       ),
     )
 
+-- a dual: a run through all other elements, and then through the order from its end, leaves what the dual takes
 pub reversed_run-run-requires : goal.reversed_run-run-requires
 reversed_run-run-requires t c =
     let n = element_count (tree_of c.args.inner.now) in
@@ -115,6 +119,7 @@ reversed_run-returns t c =
     IfOk-weaker c.minus.result (λ s. s ≡ minus all c.in_ok-base.base) (λ s. s ≡ grown_along (is_dual n p) [] c.args.order.now)
     (λ s told. told ∙ ap (minus all) (c.in_ok-base.ensures ∙ ap (grown_along p []) items) ∙ sym whole) c.minus.ensures.members
 
+-- a truncation: the first elements that a run takes, up to the cap
 pub truncation_run-returns : goal.truncation_run-returns
 truncation_run-returns t c =
     let tree = tree_of c.args.inner.now in
@@ -127,6 +132,7 @@ truncation_run-returns t c =
     (λ s told. told (element_count tree) p (tree_laws tree c.requires.sound) c.requires.distinct c.in_ok-all.ensures)
     c.first_taken.ensures
 
+-- a restriction: a run along the kept elements of the order
 pub restriction_run-run-requires : goal.restriction_run-run-requires
 restriction_run-run-requires t c =
     let told = c.deref.ensures.value ∙ c.in_ok-items.ensures in
@@ -151,6 +157,7 @@ restriction_run-returns t c =
     IfOk-weaker c.run.result (λ s. s ≡ grown_along p [] c.deref.result.now) (λ s. s ≡ grown_along (is_restricted kept p) [] c.args.order.now)
     (λ s told. told ∙ ap (grown_along p []) (c.deref.ensures.value ∙ c.in_ok-items.ensures) ∙ sym whole) c.run.ensures
 
+-- a contraction: a run through the contracted elements, and then through the others
 pub contraction_run-run-requires : goal.contraction_run-run-requires
 contraction_run-run-requires t c =
     let told = c.deref.ensures.value ∙ c.in_ok-items.ensures in
@@ -179,6 +186,7 @@ contraction_run-returns t c =
     IfOk-weaker c.minus.result (λ s. s ≡ minus c.in_ok-all.all away) (λ s. s ≡ grown_along (is_contracted n away p) [] c.args.order.now)
     (λ s told. told ∙ ap (λ all. minus all away) run ∙ sym whole) c.minus.ensures.members
 
+-- a union: what the two functions on its parts promise
 pub run-union_run-requires : goal.run-union_run-requires
 run-union_run-requires t c =
     let at = c.in-Union in
@@ -207,6 +215,7 @@ keep-returns-in-Union t c =
     IfOk-weaker c.union_keep.result (λ k. KeepsUnion c.deref-in-Union.result.now c.args.base.now k) (λ k. KeepsAny (tree_of c.args.matroid.now) c.args.base.now k)
     (λ k told. keeps_at c.args.matroid.now c.in-Union.parts c.deref-in-Union.result.now c.in-Union.is c.deref-in-Union.ensures.value c.args.base.now k told) c.union_keep.ensures
 
+-- what a contraction keeps: a maximal independent set of contracted elements, and what is kept of it together with the set
 pub contraction_keep-run-requires : goal.contraction_keep-run-requires
 contraction_keep-run-requires t c =
     let items = c.as_slice.ensures.items in (
@@ -242,6 +251,7 @@ contraction_keep-returns t c =
     (λ k made. made tree c.args.away.now c.args.set.now chosen c.in_ok-joined.ensures.members c.in_ok-kept.ensures)
     c.joined_kept.ensures
 
+-- what a dual keeps: a base that is disjoint from the set
 pub columns_keep-base_keep-requires : goal.columns_keep-base_keep-requires
 columns_keep-base_keep-requires t c =
     let n = element_count (tree_of c.args.inner.now) in
@@ -321,6 +331,7 @@ union_base-returns-clause-kept t c =
     let same : c.in_ok-set.set ≡ family_union c.in_ok-growth.growth.parts = search rules in
     c.parts_kept.ensures c.args.matroids.now c.in_ok-set.set c.in_ok-growth.ensures.are (sym same) c.in_ok-growth.ensures.kept
 
+-- greedy parts of a set: each matroid takes what it can of what the ones before it left
 pub greedy_parts-loop-i-init : goal.greedy_parts-loop-i-init
 greedy_parts-loop-i-init t c = taken_none (map test_in c.args.matroids.now) c.args.set.now _ c.in_ok-rest.rest c.new-parts.ensures.items c.in_ok-rest.ensures.equal
 
@@ -360,6 +371,7 @@ greedy_parts-returns-clause-are t c =
 pub greedy_parts-returns-clause-inside : goal.greedy_parts-returns-clause-inside
 greedy_parts-returns-clause-inside t c = subst (λ p. IsSubset (family_union p) c.args.set.now) (sym c.new.ensures.items) (taken_inside c.loop-i.invariant)
 
+-- what a union keeps: greedy parts, into which the other members come one after the other
 pub union_keep-filled_parts-requires : goal.union_keep-filled_parts-requires
 union_keep-filled_parts-requires t c =
     let set = (union_lawful c.args.matroids.now c.requires.joined).sets c.args.set.now c.requires.base in
@@ -419,6 +431,7 @@ filled_parts-returns-clause-maximal t c =
     growing_ends (union_lawful c.args.matroids.now c.requires.joined) c.as_slice-x-items.result.now c.args.set.now
     (family_union c.loop-x.growth.parts) c.loop-x.x-index c.as_slice-x-items.ensures.items c.loop-x-test.false c.loop-x.invariant.grown
 
+-- what each matroid keeps of its part
 pub keep_each-loop-i-preserved : goal.keep_each-loop-i-preserved
 keep_each-loop-i-preserved t c =
     let ms = c.args.matroids.now in
@@ -426,6 +439,8 @@ keep_each-loop-i-preserved t c =
     (kept_more KeepsOne ms c.args.parts.now c.loop-i.i c.loop-i.kept.items c.index-matroids-i.result c.get.result.now c.in_ok-keep.field-0 c.loop-i.invariant c.loop-i-test.true
     c.index-matroids-i.is c.get.ensures.item c.in_ok-keep.ensures)
 
+-- what a dual keeps: the exchanges at its base
+-- the run of a union in parts: the first matroid takes what it can, and the others of the order come one after the other
 pub grown_parts-loop-x-init : goal.grown_parts-loop-x-init
 grown_parts-loop-x-init t c =
     let ms = c.args.matroids.now in
@@ -457,6 +472,7 @@ pub grown_parts-returns-clause-taken : goal.grown_parts-returns-clause-taken
 grown_parts-returns-clause-taken t c =
     IsRunning-end (union_in c.args.matroids.now) c.args.order.now (family_union c.loop-x.growth.parts) c.loop-x.x-index c.loop-x-test.false c.loop-x.invariant.running
 
+-- the parts that such a run begins with
 pub first_growth-growth_from-requires : goal.first_growth-growth_from-requires
 first_growth-growth_from-requires t c =
     let ms = c.args.matroids.now in
@@ -482,6 +498,7 @@ growth_from-returns-clause-growing t c =
     let ms = c.args.matroids.now in
     start_growing (each_lawful ms c.requires.joined) c.args.parts c.requires.parts _ _ c.new.ensures.members (c.in_ok-unspanned.ensures ∙ ap all_below c.common_size_of.ensures)
 
+-- one turn of it: an element comes into the parts, or all that it reaches is found to be spanned
 pub take_turn-returns-then-stands-clause-step : goal.take_turn-returns-then-stands-clause-step
 take_turn-returns-then-stands-clause-step t c =
     let ms = c.args.matroids.now in
@@ -539,6 +556,7 @@ take_turn-returns-in_ok-mark_spanned-in-Stuck-clause-step t c =
     spanned_turn (each_lawful ms c.requires.joined) x (sym c.stands.ensures ∙ c.if-stands.false) grown
     (c.in_ok-mark_spanned-in-Stuck.ensures.spanned x ∙ or_right (is_member x old.spanned) (is_member x c.reached.result.now) (ap (is_member x) c.reached.ensures ∙ stuck.reaching.so_far.first))
 
+-- moves between the parts, and what is kept of the parts that they enter or leave
 pub make_moves-loop-i-init : goal.make_moves-loop-i-init
 make_moves-loop-i-init t c =
     let ms = c.args.matroids.now in
