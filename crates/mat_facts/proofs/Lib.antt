@@ -1,0 +1,2 @@
+pub mod TermSums
+pub mod BoundedSums

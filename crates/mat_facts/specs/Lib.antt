@@ -1,0 +1,6 @@
+pub mod Terms
+pub mod Facts
+pub mod Problems
+pub mod Answers
+pub mod Holding
+pub mod Sufficing
