@@ -52,7 +52,7 @@ weight_of_sums share rules (x ∷ X) =
 
 -- a sum that goes on by terms of at least 0 is no smaller
 pub sum_rises : (f : ℕ → Weight) (m j d : ℕ) → m + d ≡ j → ((l : ℕ) → m ≤ l → l < j → zero_weight ≼ f l) → sum_of_first f m ≼ sum_of_first f j
-sum_rises f m j zero e h = at_most_same _ _ (ap (sum_of_first f) (omega arith))
+sum_rises f m j zero e h = let same : m ≡ j = omega arith in at_most_same _ _ (ap (sum_of_first f) same)
 sum_rises f m zero (suc d) e h = absurd (omega arith)
 sum_rises f m (suc j) (suc d) e h =
     let before = sum_rises f m j d (omega arith) (λ l above under. h l above (omega arith)) in
@@ -61,7 +61,7 @@ sum_rises f m (suc j) (suc d) e h =
 
 -- a sum that goes on by terms of at most 0 is no larger
 pub sum_falls : (f : ℕ → Weight) (m j d : ℕ) → m + d ≡ j → ((l : ℕ) → m ≤ l → l < j → f l ≼ zero_weight) → sum_of_first f j ≼ sum_of_first f m
-sum_falls f m j zero e h = at_most_same _ _ (ap (sum_of_first f) (omega arith))
+sum_falls f m j zero e h = let same : j ≡ m = omega arith in at_most_same _ _ (ap (sum_of_first f) same)
 sum_falls f m zero (suc d) e h = absurd (omega arith)
 sum_falls f m (suc j) (suc d) e h =
     let before = sum_falls f m j d (omega arith) (λ l above under. h l above (omega arith)) in

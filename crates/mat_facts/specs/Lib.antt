@@ -1,6 +1,2 @@
 pub mod Terms
-pub mod Facts
-pub mod Problems
-pub mod Answers
-pub mod Holding
-pub mod Sufficing
+pub mod Allowances

@@ -1,0 +1,48 @@
+-- A set whose members are all in some sets has at most as many members as the sets have of it together.
+use Rattle.std.proofs.Common.{◌≡◌, ◌<◌, ◌≤◌, ◌+◌, ℕ, zero, suc, Bool, true, false, cond, List, [], ◌∷◌, length, inl, inr, refl, subst, arith}
+use Rattle.std.proofs.lemmas.Bool.{cases_eq, or_right}
+use Rattle.std.specs.List.{filter}
+use Rattle.mat_sets.specs.Sets.{intersection, is_member}
+use Rattle.mat_sets.proofs.Members.{is_member-head}
+use Rattle.mat_facts.specs.Terms.{count_of_first}
+
+-- larger numbers have a larger sum
+pub counts_grow : (f g : ℕ → ℕ) (m : ℕ) → ((i : ℕ) → i < m → f i ≤ g i) → count_of_first f m ≤ count_of_first g m
+counts_grow f g zero h = omega arith
+counts_grow f g (suc m) h =
+    let before = counts_grow f g m (λ i l. h i (omega arith)) in
+    let here = h m (omega arith) in
+    omega arith
+
+-- and one that is larger makes it larger
+counts_grow_at : (f g : ℕ → ℕ) (m i : ℕ) → i < m → f i < g i → ((k : ℕ) → k < m → f k ≤ g k) → count_of_first f m < count_of_first g m
+counts_grow_at f g zero i l more h = absurd (omega arith)
+counts_grow_at f g (suc m) i l more h = elim (cases_eq i m) [
+  | inl same ↦ (
+    let before = counts_grow f g m (λ k l. h k (omega arith)) in
+    let here : f m < g m = subst (λ k. f k < g k) same more in
+    omega arith)
+  | inr other ↦ (
+    let before = counts_grow_at f g m i (omega arith) more (λ k l. h k (omega arith)) in
+    let here = h m (omega arith) in
+    omega arith)
+]
+
+pub divided : (sides : ℕ → List ℕ) (m : ℕ) (X : List ℕ) → ((e : ℕ) → is_member e X ≡ true → (i : ℕ) × (i < m) × (is_member e (sides i) ≡ true))
+    → length X ≤ count_of_first (λ i. length (intersection X (sides i))) m
+unfolding intersection
+divided sides m [] h = omega arith
+divided sides m (x ∷ X) h =
+    let here = h x (is_member-head x X) in
+    let later = divided sides m X (λ e k. h e (or_right _ _ k)) in
+    let more = counts_grow_at (λ i. length (filter (λ y. is_member y (sides i)) X)) (λ i. length (filter (λ y. is_member y (sides i)) (x ∷ X))) m here.0 here.1
+    (counted here.0 here.2) (λ i l. kept (is_member x (sides i)) i) in
+    omega arith
+  where
+    counted : (i : ℕ) → is_member x (sides i) ≡ true → length (filter (λ y. is_member y (sides i)) X) < length (filter (λ y. is_member y (sides i)) (x ∷ X))
+    counted i e = rw e (omega arith)
+
+    kept : (b : Bool) (i : ℕ) → length (filter (λ y. is_member y (sides i)) X)
+        ≤ length (cond b (x ∷ filter (λ y. is_member y (sides i)) X) (filter (λ y. is_member y (sides i)) X))
+    kept true i = omega arith
+    kept false i = omega arith
