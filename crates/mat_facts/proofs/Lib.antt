@@ -3,3 +3,7 @@ pub mod BoundedSums
 pub mod SharedBounds
 pub mod DividedSets
 pub mod AllowedCounts
+pub mod FallingTerms
+pub mod HeaviestTerms
+pub mod RulesOfProblems
+pub mod SufficientBounds

@@ -1,0 +1,98 @@
+-- Where a set is heaviest of its size, no independent set has more members above any of its terms: one that had would give it a member for a
+-- lighter one.
+use Rattle.std.proofs.Common.{◌≡◌, ◌<◌, ◌≤◌, ◌+◌, ℕ, suc, Bool, true, false, not, ◌&&◌, ◌||◌, eqb, List, length, inl, inr, refl, sym, ap, ◌∙◌, subst, arith}
+use Rattle.std.proofs.lemmas.Bool.{and_parts, and_from, both_ways, cases_eq, cases_lt, eq-eqb, eqb-true, false_from_ne_true, ne_eqb, not_from_false, or_cases, or_left, or_right}
+use Rattle.std.proofs.lemmas.Int.{ints}
+use Rattle.std.specs.List.{filter}
+use Rattle.mat_sets.specs.Sets.{is_member, with_one, without_one, IsRising, IsSubset}
+use Rattle.mat_sets.specs.Weights.{◌≼◌, is_below, weight_at}
+use Rattle.mat_sets.specs.declared.weight.Weight.{Weight}
+use Rattle.mat_sets.proofs.Cardinalities.{length-exchange_one, length-with_one}
+use Rattle.mat_sets.proofs.Filters.{IsRising-filter}
+use Rattle.mat_sets.proofs.Members.{is_member-filter, is_member-with_one, is_member-without_one, set_members, IsRising-with_one, IsRising-without_one}
+use Rattle.mat_sets.proofs.Subsets.{same_size_subset, subset_or}
+use Rattle.mat_sets.proofs.WeightOrder.{at_most_not, below_gives, not_below_gives}
+use Rattle.mat_laws.specs.Heaviest.{IsHeaviest}
+use Rattle.mat_laws.specs.Matroids.{IsMatroid}
+use Rattle.mat_laws.proofs.Independent.{grow_to_size, rising}
+use Rattle.mat_laws.proofs.LocallyHeaviest.{exchange_gains_nothing}
+use Rattle.mat_facts.specs.Terms.{count_above, falling_terms}
+use Rattle.mat_facts.proofs.FallingTerms.{length-falling_terms, members_above}
+
+-- a member of X + e other than y is one of X - y + e
+kept : (X M : List ℕ) (e y k : ℕ) → IsSubset M X → is_member y X ≡ true → is_member e X ≡ false → (is_member k (with_one M e) || is_member k X) ≡ true
+    → (k ≡ y → ⊥) → is_member k (with_one (without_one X y) e) ≡ true
+kept X M e y k inside has out found other = elim (cases_eq k e) [
+  | inl same ↦ is_member-with_one k e (without_one X y) ∙ or_left (eqb k e) _ (eq-eqb k e same)
+  | inr different ↦
+      let member : is_member k X ≡ true = elim (or_cases _ _ found) [
+        | inl m ↦ (let parts = sym (is_member-with_one k e M) ∙ m in elim (or_cases _ _ parts) [
+          | inl eq ↦ absurd (different (eqb-true k e eq))
+          | inr mm ↦ inside.inside k mm
+        ])
+        | inr m ↦ m
+      ] in
+      is_member-with_one k e (without_one X y) ∙ or_right (eqb k e) _
+      (is_member-without_one k y X ∙ and_from (is_member k X) (not (eqb k y)) member (not_from_false _ (ne_eqb k y other)))
+]
+
+module _ {n : ℕ} {p : List ℕ → Bool} (laws : IsMatroid n p) (w : ℕ → Weight) (X : List ℕ) (h : IsHeaviest p w X) (t : Weight) where
+  -- the members of a set with more than t
+  abbrev more : List ℕ → List ℕ
+  more Y = filter (λ x. is_below t (w x)) Y
+
+  in_more : (Y : List ℕ) (x : ℕ) → is_member x (more Y) ≡ true → (is_member x Y ≡ true) × (is_below t (w x) ≡ true)
+  in_more Y x m = and_parts (is_member x Y) (is_below t (w x)) (sym (is_member-filter (λ x. is_below t (w x)) x Y) ∙ m)
+
+  to_more : (Y : List ℕ) (x : ℕ) → is_member x Y ≡ true → is_below t (w x) ≡ true → is_member x (more Y) ≡ true
+  to_more Y x m b = is_member-filter (λ x. is_below t (w x)) x Y ∙ and_from (is_member x Y) (is_below t (w x)) m b
+
+  passes_more : (Y : List ℕ) → p Y ≡ true → p (more Y) ≡ true
+  passes_more Y ok = laws.subsets (more Y) Y (IsRising-filter (λ x. is_below t (w x)) Y (rising laws Y ok)) (record { inside = λ x m. (in_more Y x m).0 }) ok
+
+  -- an element with more than t that can be added to those of X that have more: then X has no other members
+  none_added : (e : ℕ) → is_below t (w e) ≡ true → is_member e (more X) ≡ false → p (with_one (more X) e) ≡ true → count_above w t X < length X → ⊥
+  none_added e high out ok few =
+      let rx = rising laws X h.passes in
+      let rm : IsRising (more X) = IsRising-filter (λ x. is_below t (w x)) X rx in
+      let outside : is_member e X ≡ false = false_from_ne_true _ (λ m. both_ways _ out (to_more X e m high)) in
+      let size = length-with_one (more X) e rm out in
+      let grown = grow_to_size laws (with_one (more X) e) X ok h.passes (omega arith) in
+      let K = grown.0 in
+      let g = grown.1 in
+      let rk = rising laws K g.passes in
+      let has_e : is_member e K ≡ true = g.holds.inside e (grind (arith, set_members)) in
+      let missing : (y : ℕ) × (is_member y X ≡ true) × (is_member y K ≡ false) = elim (subset_or X K) [
+        | inl inside ↦ absurd (both_ways _ outside (subst (λ Y. is_member e Y ≡ true) (sym (same_size_subset X K rx rk inside (let s = g.size in omega arith))) has_e))
+        | inr found ↦ found
+      ] in
+      let y = missing.0 in
+      let low : is_below t (w y) ≡ false = false_from_ne_true _ (λ b.
+          both_ways _ missing.2 (g.holds.inside y (is_member-with_one y e (more X) ∙ or_right (eqb y e) _ (to_more X y missing.1 b)))) in
+      let changed = with_one (without_one X y) e in
+      let rc : IsRising changed = IsRising-with_one (without_one X y) e (IsRising-without_one X y rx) in
+      let inside : IsSubset K changed = record { inside = λ k m. kept X (more X) e y k (record { inside = λ x m. (in_more X x m).0 }) missing.1 outside (g.inside k m) (λ s. both_ways _ missing.2 (subst (λ z. is_member z K ≡ true) s m)) } in
+      let same : K ≡ changed = same_size_subset K changed rk rc inside
+      (let s = g.size in let c = length-exchange_one X e y rx missing.1 outside in omega arith) in
+      let gains = exchange_gains_nothing laws w X e y h missing.1 outside (subst (λ Y. p Y ≡ true) same g.passes) in
+      let above = below_gives t (w e) high in
+      let below = not_below_gives t (w y) low in
+      absurd (omega (arith, ints))
+
+  -- so no independent set has more members with more than t
+  pub none_has_more : count_above w t X < length X → (J : List ℕ) → p J ≡ true → count_above w t J ≤ count_above w t X
+  none_has_more few J ok = elim (cases_lt (count_above w t X) (count_above w t J)) [
+    | inr le ↦ le
+    | inl less ↦
+        let a = laws.augmentation (more X) (more J) (passes_more X h.passes) (passes_more J ok) less in
+        absurd (none_added a.element (in_more J a.element a.inside).1 a.outside a.augmented few)
+  ]
+
+-- the terms of a heaviest set bound every independent set
+pub terms_of_heaviest : {n : ℕ} {p : List ℕ → Bool} → IsMatroid n p → (w : ℕ → Weight) (X : List ℕ) → IsHeaviest p w X
+    → (J : List ℕ) → p J ≡ true → (l : ℕ) → l < length (falling_terms w X) → count_above w (weight_at (falling_terms w X) l) J ≤ l
+terms_of_heaviest laws w X h J ok l less =
+    let inside : l < length X = let e = length-falling_terms w X in omega arith in
+    let few = members_above w X l inside in
+    let most = none_has_more laws w X h (weight_at (falling_terms w X) l) (omega arith) J ok in
+    omega arith
