@@ -11,10 +11,10 @@ use Rattle.mat_sets.proofs.Cardinalities.{length-exchange_one, length-with_one}
 use Rattle.mat_sets.proofs.Filters.{IsRising-filter}
 use Rattle.mat_sets.proofs.Members.{is_member-filter, is_member-with_one, is_member-without_one, set_members, IsRising-with_one, IsRising-without_one}
 use Rattle.mat_sets.proofs.Subsets.{same_size_subset, subset_or}
-use Rattle.mat_sets.proofs.WeightOrder.{at_most_not, below_gives, not_below_gives}
+use Rattle.mat_sets.proofs.WeightOrder.{at_most_not, at_most_trans, below_gives, not_below_gives}
 use Rattle.mat_laws.specs.Heaviest.{IsHeaviest}
 use Rattle.mat_laws.specs.Matroids.{IsMatroid}
-use Rattle.mat_laws.proofs.Independent.{grow_to_size, rising}
+use Rattle.mat_laws.proofs.Independent.{grow_to_size, rising, IsGrown}
 use Rattle.mat_laws.proofs.LocallyHeaviest.{exchange_gains_nothing}
 use Rattle.mat_facts.specs.Terms.{count_above, falling_terms}
 use Rattle.mat_facts.proofs.FallingTerms.{length-falling_terms, members_above}
@@ -50,34 +50,48 @@ module _ {n : ℕ} {p : List ℕ → Bool} (laws : IsMatroid n p) (w : ℕ → W
   passes_more : (Y : List ℕ) → p Y ≡ true → p (more Y) ≡ true
   passes_more Y ok = laws.subsets (more Y) Y (IsRising-filter (λ x. is_below t (w x)) Y (rising laws Y ok)) (record { inside = λ x m. (in_more Y x m).0 }) ok
 
+  -- an independent set K of X + e that has e and lacks y, a member of X: e has no more than y
+  lighter : (e y : ℕ) (K : List ℕ) → is_member e X ≡ false → is_member y X ≡ true → p K ≡ true → length K ≡ length X
+      → ((k : ℕ) → is_member k K ≡ true → (is_member k (with_one (more X) e) || is_member k X) ≡ true) → is_member y K ≡ false → w e ≼ w y
+  lighter e y K outside member ok size inside lacks =
+      let rx = rising laws X h.passes in
+      let rc : IsRising (with_one (without_one X y) e) = IsRising-with_one (without_one X y) e (IsRising-without_one X y rx) in
+      let subset : IsSubset K (with_one (without_one X y) e) = record {
+        inside = λ k m.
+            kept X (more X) e y k (record { inside = λ x q. (in_more X x q).0 }) member outside (inside k m)
+            (λ s. both_ways _ lacks (subst (λ z. is_member z K ≡ true) s m));
+      } in
+      let changed : length (with_one (without_one X y) e) ≡ length X = length-exchange_one X e y rx member outside in
+      let same : K ≡ with_one (without_one X y) e = same_size_subset K (with_one (without_one X y) e) (rising laws K ok) rc subset (omega arith) in
+      exchange_gains_nothing laws w X e y h member outside (subst (λ Y. p Y ≡ true) same ok)
+
+  -- a larger set that has e and X has such a y
+  lacking : (e : ℕ) (K : List ℕ) → is_member e X ≡ false → is_member e K ≡ true → p K ≡ true → length K ≡ length X
+      → (y : ℕ) × (is_member y X ≡ true) × (is_member y K ≡ false)
+  lacking e K outside has ok size = elim (subset_or X K) [
+    | inl inside ↦
+        absurd (both_ways _ outside (subst (λ Y. is_member e Y ≡ true)
+        (sym (same_size_subset X K (rising laws X h.passes) (rising laws K ok) inside (omega arith))) has))
+    | inr found ↦ found
+  ]
+
   -- an element with more than t that can be added to those of X that have more: then X has no other members
   none_added : (e : ℕ) → is_below t (w e) ≡ true → is_member e (more X) ≡ false → p (with_one (more X) e) ≡ true → count_above w t X < length X → ⊥
   none_added e high out ok few =
-      let rx = rising laws X h.passes in
-      let rm : IsRising (more X) = IsRising-filter (λ x. is_below t (w x)) X rx in
+      let rm : IsRising (more X) = IsRising-filter (λ x. is_below t (w x)) X (rising laws X h.passes) in
       let outside : is_member e X ≡ false = false_from_ne_true _ (λ m. both_ways _ out (to_more X e m high)) in
       let size = length-with_one (more X) e rm out in
       let grown = grow_to_size laws (with_one (more X) e) X ok h.passes (omega arith) in
-      let K = grown.0 in
-      let g = grown.1 in
-      let rk = rising laws K g.passes in
-      let has_e : is_member e K ≡ true = g.holds.inside e (grind (arith, set_members)) in
-      let missing : (y : ℕ) × (is_member y X ≡ true) × (is_member y K ≡ false) = elim (subset_or X K) [
-        | inl inside ↦ absurd (both_ways _ outside (subst (λ Y. is_member e Y ≡ true) (sym (same_size_subset X K rx rk inside (let s = g.size in omega arith))) has_e))
-        | inr found ↦ found
-      ] in
-      let y = missing.0 in
-      let low : is_below t (w y) ≡ false = false_from_ne_true _ (λ b.
-          both_ways _ missing.2 (g.holds.inside y (is_member-with_one y e (more X) ∙ or_right (eqb y e) _ (to_more X y missing.1 b)))) in
-      let changed = with_one (without_one X y) e in
-      let rc : IsRising changed = IsRising-with_one (without_one X y) e (IsRising-without_one X y rx) in
-      let inside : IsSubset K changed = record { inside = λ k m. kept X (more X) e y k (record { inside = λ x m. (in_more X x m).0 }) missing.1 outside (g.inside k m) (λ s. both_ways _ missing.2 (subst (λ z. is_member z K ≡ true) s m)) } in
-      let same : K ≡ changed = same_size_subset K changed rk rc inside
-      (let s = g.size in let c = length-exchange_one X e y rx missing.1 outside in omega arith) in
-      let gains = exchange_gains_nothing laws w X e y h missing.1 outside (subst (λ Y. p Y ≡ true) same g.passes) in
-      let above = below_gives t (w e) high in
-      let below = not_below_gives t (w y) low in
-      absurd (omega (arith, ints))
+      ends e high outside grown.0 grown.1
+    where
+      ends : (e : ℕ) → is_below t (w e) ≡ true → is_member e X ≡ false → (K : List ℕ) → IsGrown p (with_one (more X) e) X K → ⊥
+      ends e high outside K g =
+          let has : is_member e K ≡ true = g.holds.inside e (is_member-with_one e e (more X) ∙ or_left (eqb e e) _ (eq-eqb e e refl)) in
+          let found = lacking e K outside has g.passes g.size in
+          let gains = lighter e found.0 K outside found.1 g.passes g.size g.inside found.2 in
+          let low : is_below t (w found.0) ≡ false = false_from_ne_true _ (λ b.
+              both_ways _ found.2 (g.holds.inside found.0 (is_member-with_one found.0 e (more X) ∙ or_right (eqb found.0 e) _ (to_more X found.0 found.1 b)))) in
+          at_most_not (w e) t (at_most_trans _ _ _ gains (not_below_gives t (w found.0) low)) (below_gives t (w e) high)
 
   -- so no independent set has more members with more than t
   pub none_has_more : count_above w t X < length X → (J : List ℕ) → p J ≡ true → count_above w t J ≤ count_above w t X

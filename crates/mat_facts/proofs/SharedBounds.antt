@@ -47,7 +47,7 @@ module _ (n rules : ℕ) (rule : ℕ → List ℕ → Bool) (w : List Weight) (s
     (few : (i : ℕ) → i < rules → (X : List ℕ) → rule i X ≡ true → (l : ℕ) → l < length (list_at terms i)
         → count_above (weight_at (list_at shares i)) (weight_at (list_at terms i) l) X ≤ l) where
   -- the terms that are taken may be any of no higher number
-  by_terms : (pick : ℕ → ℕ) (m : ℕ) (X : List ℕ) → IsSet n X → ((i : ℕ) → i < rules → rule i X ≡ true) → length X ≡ m
+  pub by_terms : (pick : ℕ → ℕ) (m : ℕ) (X : List ℕ) → IsSet n X → ((i : ℕ) → i < rules → rule i X ≡ true) → length X ≡ m
       → ((l : ℕ) → l < m → pick l ≤ l) → ((i l : ℕ) → i < rules → l < m → pick l < length (list_at terms i))
       → weight w X ≼ sum_of_first (λ l. step_at terms rules (pick l)) m
   by_terms pick m X set all size low inside =
