@@ -7,3 +7,7 @@ pub mod FallingTerms
 pub mod HeaviestTerms
 pub mod RulesOfProblems
 pub mod SufficientBounds
+pub mod ListedFacts
+pub mod GivenBounds
+pub mod RightRungs
+pub mod RightLadderReasons

@@ -5,3 +5,4 @@ pub mod Problems
 pub mod Answers
 pub mod Holding
 pub mod Sufficing
+pub mod Reasons

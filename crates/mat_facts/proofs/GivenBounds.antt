@@ -1,0 +1,131 @@
+-- Where facts of the given forms stand in a list, they bound sizes: of one rule, and of two.
+use Rattle.std.proofs.Common.{◌≡◌, ◌<◌, ◌≤◌, ◌+◌, ℕ, zero, suc, Bool, true, false, List, [], ◌∷◌, length, get_or, inl, inr, refl, sym, ap, ◌∙◌, subst, arith}
+use Rattle.std.proofs.lemmas.Bool.{cases_Bool, and_from, lt-ltb, not_from_false}
+use Rattle.std.proofs.lemmas.Int.{ints}
+use Rattle.std.specs.List.{Contains}
+use Rattle.mat_sets.specs.Sets.{all_below, intersection, is_member, minus, IsRising, IsSet}
+use Rattle.mat_sets.specs.Weights.{◌⊕◌, ◌≼◌, weight, weight_at}
+use Rattle.mat_sets.specs.declared.weight.Weight.{Weight}
+use Rattle.mat_sets.proofs.Ground.{is_member-all_below}
+use Rattle.mat_sets.proofs.Members.{is_member-minus, IsRising-intersection}
+use Rattle.mat_sets.proofs.Subsets.{intersection-left, intersection-right}
+use Rattle.mat_sets.proofs.WeightOrder.{at_most_same, pairs}
+use Rattle.mat_laws.specs.Matroids.{IsMatroid}
+use Rattle.mat_laws.specs.Ranks.{rank}
+use Rattle.mat_laws.proofs.Independent.{rising}
+use Rattle.mat_laws.proofs.RankLaws.{rank_is}
+use Rattle.mat_problem.specs.Instances.{Instance}
+use Rattle.mat_facts.specs.Allowances.{AllowsAtMost}
+use Rattle.mat_facts.specs.Facts.{Fact, at_most, few_above, shared}
+use Rattle.mat_facts.specs.Problems.{rule_count, size_of}
+use Rattle.mat_facts.specs.Sufficing.{BoundsSize, DividesElements}
+use Rattle.mat_facts.specs.Terms.{count_of_first, falling_terms, list_at, step_at, sum_of_first}
+use Rattle.mat_facts.proofs.FallingTerms.{length-falling_terms, sum-falling_terms}
+use Rattle.mat_facts.proofs.TermSums.{sums_exchange}
+
+-- a rule allows at most the rank
+pub allows_rank : {n : ℕ} {p : List ℕ → Bool} → IsMatroid n p → (S : List ℕ) → IsSet n S → AllowsAtMost n p S (rank p S)
+allows_rank {n} {p} laws S set = record {
+  set = set;
+  most = λ X ok.
+      (rank_is laws S set.rising).most (intersection X S)
+      (laws.subsets (intersection X S) X (IsRising-intersection X S (rising laws X ok)) (intersection-left X S) ok) (intersection-right X S);
+}
+
+-- the terms that a set gives, by the share or the two shares of each element
+abbrev pub terms_of : List Weight → List ℕ → List Weight
+terms_of share set = falling_terms (weight_at share) set
+
+abbrev one_list : List Weight → List ℕ → List (List Weight)
+one_list w set = terms_of w set ∷ []
+
+abbrev two_lists : List Weight → List Weight → List ℕ → List (List Weight)
+two_lists first second set = terms_of first set ∷ terms_of second set ∷ []
+
+pub total_of_one : (w : List Weight) (set : List ℕ) → sum_of_first (step_at (one_list w set) 1) (length set) ≡ weight w set
+total_of_one w set =
+    let turned = sums_exchange (λ i l. weight_at (list_at (one_list w set) i) l) 1 (length set) in
+    let own = sum-falling_terms (weight_at w) set in
+    omega (arith, ints, pairs)
+
+pub total_of_two : (first second : List Weight) (set : List ℕ)
+    → sum_of_first (step_at (two_lists first second set) 2) (length set) ≡ weight first set ⊕ weight second set
+total_of_two first second set =
+    let turned = sums_exchange (λ i l. weight_at (list_at (two_lists first second set) i) l) 2 (length set) in
+    let one = sum-falling_terms (weight_at first) set in
+    let other = sum-falling_terms (weight_at second) set in
+    omega (arith, ints, pairs)
+
+module _ (problem : Instance) (facts : List Fact) (k : ℕ) (most : Weight) (set : List ℕ) (size : length set ≡ k) where
+  pub bound_by_one : rule_count problem ≡ 1 → (w : List Weight) → Contains facts (shared (w ∷ []))
+      → Contains facts (few_above 0 w (terms_of w set)) → weight w set ≼ most → BoundsSize problem facts k most
+  bound_by_one one w says says_few le = record {
+    shares = w ∷ [];
+    terms = one_list w set;
+    says_shares = says;
+    says_terms = by_rule;
+    long = long;
+    total = subst (λ r. sum_of_first (step_at (one_list w set) r) k ≼ most) (sym one)
+        (subst (λ m. sum_of_first (step_at (one_list w set) 1) m ≼ most) size (subst (λ v. v ≼ most) (sym (total_of_one w set)) le));
+  }
+    where
+      by_rule : (i : ℕ) → i < rule_count problem → Contains facts (few_above i (list_at (w ∷ []) i) (list_at (one_list w set) i))
+      by_rule zero l = says_few
+      by_rule (suc i) l = absurd (omega (arith, one))
+
+      long : (i : ℕ) → i < rule_count problem → length (list_at (one_list w set) i) ≡ k
+      long zero l = length-falling_terms (weight_at w) set ∙ size
+      long (suc i) l = absurd (omega (arith, one))
+
+  pub bound_by_two : rule_count problem ≡ 2 → (first second : List Weight) → Contains facts (shared (first ∷ second ∷ []))
+      → Contains facts (few_above 0 first (terms_of first set)) → Contains facts (few_above 1 second (terms_of second set))
+      → (weight first set ⊕ weight second set) ≼ most → BoundsSize problem facts k most
+  bound_by_two two first second says says_first says_second le = record {
+    shares = first ∷ second ∷ [];
+    terms = two_lists first second set;
+    says_shares = says;
+    says_terms = by_rule;
+    long = long;
+    total = subst (λ r. sum_of_first (step_at (two_lists first second set) r) k ≼ most) (sym two)
+        (subst (λ m. sum_of_first (step_at (two_lists first second set) 2) m ≼ most) size
+        (subst (λ v. v ≼ most) (sym (total_of_two first second set)) le));
+  }
+    where
+      by_rule : (i : ℕ) → i < rule_count problem
+          → Contains facts (few_above i (list_at (first ∷ second ∷ []) i) (list_at (two_lists first second set) i))
+      by_rule zero l = says_first
+      by_rule (suc zero) l = says_second
+      by_rule (suc (suc i)) l = absurd (omega (arith, two))
+
+      long : (i : ℕ) → i < rule_count problem → length (list_at (two_lists first second set) i) ≡ k
+      long zero l = length-falling_terms (weight_at first) set ∙ size
+      long (suc zero) l = length-falling_terms (weight_at second) set ∙ size
+      long (suc (suc i)) l = absurd (omega (arith, two))
+
+-- each element is in the cut or outside it
+pub divided_by_cut : (problem : Instance) (facts : List Fact) (m n : ℕ) (cut : List ℕ) (outer inner : ℕ) → rule_count problem ≡ 2 → size_of problem ≡ n
+    → Contains facts (at_most 0 (minus (all_below n) cut) outer) → Contains facts (at_most 1 cut inner) → outer + inner < m
+    → DividesElements problem facts m
+divided_by_cut problem facts m n cut outer inner two size says_outer says_inner few = record {
+  sides = minus (all_below n) cut ∷ cut ∷ [];
+  most = outer ∷ inner ∷ [];
+  says_most = by_rule;
+  each = λ e l. at e (subst (λ s. e < s) size l);
+  few = subst (λ r. count_of_first (λ i. get_or (outer ∷ inner ∷ []) i 0) r < m) (sym two) (omega arith);
+}
+  where
+    by_rule : (i : ℕ) → i < rule_count problem
+        → Contains facts (at_most i (list_at (minus (all_below n) cut ∷ cut ∷ []) i) (get_or (outer ∷ inner ∷ []) i 0))
+    by_rule zero l = says_outer
+    by_rule (suc zero) l = says_inner
+    by_rule (suc (suc i)) l = absurd (omega (arith, two))
+
+    at : (e : ℕ) → e < n → (i : ℕ) × (i < rule_count problem) × (is_member e (list_at (minus (all_below n) cut ∷ cut ∷ []) i) ≡ true)
+    at e l = elim (cases_Bool (is_member e cut)) [
+      | inl inside ↦ (1, omega (arith, two), inside)
+      | inr outside ↦ (
+        0,
+        omega (arith, two),
+        is_member-minus e (all_below n) cut ∙ and_from (is_member e (all_below n)) _ (is_member-all_below e n ∙ lt-ltb e n l) (not_from_false _ outside),
+      )
+    ]

@@ -1,0 +1,186 @@
+-- Right ladders give reasons: of two matroids, of colours, of a table, and of one matroid.
+use Rattle.std.proofs.Common.{◌≡◌, ◌<◌, ◌≤◌, ◌-◌, ℕ, zero, suc, Bool, true, List, [], ◌∷◌, ◌++◌, length, map, get_or, Option, None, Some, slice_get, inl, inr, refl, sym, ap, ◌∙◌, subst, arith}
+use Rattle.std.proofs.lemmas.Int.{ints}
+use Rattle.std.proofs.lemmas.List.Elements.{All-append, All-cons, All-nil, Contains-append_left, Contains-append_right}
+use Rattle.std.proofs.lemmas.Option.{same_Some, slice_get_cases}
+use Rattle.std.specs.List.{All, Contains}
+use Rattle.std.specs.Prelude.{flat_map, MatchOption}
+use Rattle.mat_sets.specs.Graphs.{ends_of}
+use Rattle.mat_sets.specs.Weights.{◌⊕◌, ◌≼◌, weight, weight_at, zero_weight}
+use Rattle.mat_sets.specs.declared.weight.Weight.{Weight}
+use Rattle.mat_sets.proofs.WeightOrder.{at_most_same, pairs}
+use Rattle.mat_laws.specs.Matroids.{IsMatroid}
+use Rattle.mat_graphic.specs.Forests.{is_graphic, number_of_components}
+use Rattle.mat_any.specs.Trees.{Tree, is_independent}
+use Rattle.mat_fronts.specs.Assignments.{column_at, row_at}
+use Rattle.mat_fronts.specs.Once.{is_once}
+use Rattle.mat_fronts.specs.Rainbow.{IsMissingColours, edges_without}
+use Rattle.mat_problem.specs.Instances.{Instance, pair, list, coloured, table}
+use Rattle.mat_problem.specs.Validity.{IsValid}
+use Rattle.mat_cert.specs.Certificates.{Certificate, intersect, best, rainbow, assign, last_rung}
+use Rattle.mat_cert.specs.declared.answer.PlainRung.{PlainRung}
+use Rattle.mat_cert.specs.declared.answer.PricedRung.{PricedRung}
+use Rattle.mat_right.specs.Right.{AreRightRungs, IsRight, IsRightLadder, IsRightRainbow}
+use Rattle.mat_facts.specs.Allowances.{AddUp}
+use Rattle.mat_facts.specs.Facts.{Fact, allowed, falls_apart, few_above, full, shared}
+use Rattle.mat_facts.specs.Holding.{Holds}
+use Rattle.mat_facts.specs.Problems.{size_of}
+use Rattle.mat_facts.specs.Reasons.{colours_facts, ladder_facts, last_facts, reason_of, size_facts}
+use Rattle.mat_facts.specs.Sufficing.{BoundsSize, ShowsEachRung, ShowsNoLarger, Suffice}
+use Rattle.mat_facts.proofs.GivenBounds.{bound_by_one, terms_of}
+use Rattle.mat_facts.proofs.HeaviestTerms.{terms_of_heaviest}
+use Rattle.mat_facts.proofs.ListedFacts.{all_in_all, all_one, all_two, stands_in_all, stands_later}
+use Rattle.mat_facts.proofs.RightRungs.{each_rung_shown, ladder_allowed, ladder_holds}
+use Rattle.mat_facts.proofs.RulesOfProblems.{both_allow, one_allows, rules_are_matroids}
+
+-- the facts hold and suffice
+abbrev pub GivesReason : Instance → Certificate → Type 0
+GivesReason problem answer = All (Holds problem answer) (reason_of problem answer) × Suffice problem answer (reason_of problem answer)
+
+pub intersection_gives : (w : List Weight) (first second : Tree) (n : ℕ) (rungs : List PricedRung) (cut : List ℕ) → IsValid (pair w first second)
+    → IsRight (pair w first second) (intersect n rungs cut) → GivesReason (pair w first second) (intersect n rungs cut)
+intersection_gives w first second n rungs cut valid right =
+    let problem = pair w first second in
+    let answer = intersect n rungs cut in
+    let p = is_independent first in
+    let q = is_independent second in
+    let ladder : IsRightLadder (length w) p q w rungs cut = subst (λ m. IsRightLadder m p q w rungs cut) right.0 right.1 in
+    let laws = rules_are_matroids problem valid in
+    let lp : IsMatroid (length w) p = laws.each 0 (omega arith) in
+    let lq : IsMatroid (length w) q = laws.each 1 (omega arith) in
+    let are = ladder_allowed problem answer (length w) p q w lp lq rungs cut ladder refl (both_allow p q) in (
+      ladder_holds problem answer (length w) p q w lp lq rungs cut ladder (right.0, are)
+      (λ shares h. h) (λ share terms h. h) (λ share terms h. h) (λ S c h. h) (λ S c h. h),
+      each_rung_shown problem answer (length w) p q w lp lq rungs cut ladder refl refl (reason_of problem answer) (λ fact h. h),
+    )
+
+pub assignment_gives : (rows columns : ℕ) (cells : List (ℕ × ℕ)) (w : List Weight) (n r c : ℕ) (rungs : List PricedRung) (cut : List ℕ)
+    → IsValid (table rows columns cells w) → IsRight (table rows columns cells w) (assign n r c rungs cut)
+    → GivesReason (table rows columns cells w) (assign n r c rungs cut)
+assignment_gives rows columns cells w n r c rungs cut valid right =
+    let problem = table rows columns cells w in
+    let answer = assign n r c rungs cut in
+    let m = length cells in
+    let p = is_once m rows (row_at cells) in
+    let q = is_once m columns (column_at cells) in
+    let ladder : IsRightLadder m p q w rungs cut =
+    subst (λ k. IsRightLadder k (is_once k rows (row_at cells)) (is_once k columns (column_at cells)) w rungs cut) right.0 right.3 in
+    let laws = rules_are_matroids problem valid in
+    let lp : IsMatroid m p = laws.each 0 (omega arith) in
+    let lq : IsMatroid m q = laws.each 1 (omega arith) in
+    let are = ladder_allowed problem answer m p q w lp lq rungs cut ladder refl (both_allow p q) in (
+      ladder_holds problem answer m p q w lp lq rungs cut ladder (right.0, are)
+      (λ shares h. h) (λ share terms h. h) (λ share terms h. h) (λ S c h. h) (λ S c h. h),
+      each_rung_shown problem answer m p q w lp lq rungs cut ladder refl refl (reason_of problem answer) (λ fact h. h),
+    )
+
+module _ (vertices colours : ℕ) (edges : List (ℕ × ℕ)) (colour_of : List ℕ) (w : List Weight) (n v c : ℕ) (rungs : List PricedRung) (cut : List ℕ) where
+  abbrev colour : ℕ → ℕ
+  colour e = get_or colour_of e 0
+
+  abbrev problem : Instance
+  problem = coloured vertices colours edges colour_of w
+
+  colours_hold : (missing other : Option (List ℕ)) → MatchOption missing (vertices ≤ length rungs)
+      (λ C. (length rungs < vertices) × IsMissingColours vertices (length edges) (ends_of edges) colours colour C)
+      → All (Holds problem (rainbow n v c rungs cut other)) (colours_facts vertices (length edges) (ends_of edges) colour missing)
+  colours_hold None other h = All-nil (Holds problem (rainbow n v c rungs cut other))
+  colours_hold (Some C) other h =
+      let count = number_of_components vertices (ends_of edges) (edges_without (length edges) colour C) in
+      all_one (Holds problem (rainbow n v c rungs cut other)) (falls_apart C count) (h.1.set, refl)
+
+  pub rainbow_gives : (missing : Option (List ℕ)) → IsValid problem → IsRight problem (rainbow n v c rungs cut missing)
+      → GivesReason problem (rainbow n v c rungs cut missing)
+  rainbow_gives missing valid right =
+      let answer = rainbow n v c rungs cut missing in
+      let m = length edges in
+      let p = is_graphic m (ends_of edges) in
+      let q = is_once m colours colour in
+      let is : IsRightRainbow vertices m (ends_of edges) colours colour w rungs cut missing =
+      subst (λ k. IsRightRainbow vertices k (ends_of edges) colours colour w rungs cut missing) right.0 right.3 in
+      let laws = rules_are_matroids problem valid in
+      let lp : IsMatroid m p = laws.each 0 (omega arith) in
+      let lq : IsMatroid m q = laws.each 1 (omega arith) in
+      let are = ladder_allowed problem answer m p q w lp lq rungs cut is.ladder refl (both_allow p q) in
+      let extra = colours_facts vertices m (ends_of edges) colour missing in (
+        All-append (Holds problem answer) (ladder_facts m p q rungs cut) extra
+        (ladder_holds problem answer m p q w lp lq rungs cut is.ladder (right.0, are)
+        (λ shares h. h) (λ share terms h. h) (λ share terms h. h) (λ S c h. h) (λ S c h. h))
+        (colours_hold missing missing is.missing_colours),
+        each_rung_shown problem answer m p q w lp lq rungs cut is.ladder refl refl (reason_of problem answer)
+        (λ fact h. Contains-append_left (ladder_facts m p q rungs cut) extra fact h),
+      )
+
+-- ---- of one matroid
+
+module _ (w : List Weight) (matroid : Tree) (n : ℕ) (rungs : List PlainRung) (valid : IsValid (list w (matroid ∷ [])))
+    (right : IsRight (list w (matroid ∷ [])) (best n rungs)) where
+  abbrev single : Instance
+  single = list w (matroid ∷ [])
+
+  abbrev answer : Certificate
+  answer = best n rungs
+
+  abbrev p : List ℕ → Bool
+  p = is_independent matroid
+
+  lp : IsMatroid (length w) p
+  lp = (rules_are_matroids single valid).each 0 (omega arith)
+
+  are : AreRightRungs (length w) p w rungs
+  are = subst (λ m. AreRightRungs m p w rungs) right.0 right.1
+
+  abbrev sizes : List Fact
+  sizes = flat_map (λ (rung : PlainRung). size_facts (w ∷ []) rung.set) rungs
+
+  abbrev ends : List Fact
+  ends = last_facts (slice_get rungs (last_rung rungs))
+
+  whole : AddUp (length w) 1 w (w ∷ [])
+  whole e l = omega (arith, ints, pairs)
+
+  ends_hold : (found : Option PlainRung) → slice_get rungs (last_rung rungs) ≡ found → All (Holds single answer) (last_facts found)
+  ends_hold None e = All-nil (Holds single answer)
+  ends_hold (Some rung) e = all_one (Holds single answer) (full rung.set) (are.last rung e)
+
+  sizes_hold : (k : ℕ) (rung : PlainRung) → slice_get rungs k ≡ Some rung → All (Holds single answer) (size_facts (w ∷ []) rung.set)
+  sizes_hold k rung at =
+      all_two (Holds single answer) (shared (w ∷ [])) (few_above 0 w (terms_of w rung.set)) whole
+      (terms_of_heaviest lp (weight_at w) rung.set (are.each k rung at).heaviest)
+
+  rungs_hold : All (Holds single answer) (allowed ∷ sizes ++ ends)
+  rungs_hold =
+      All-cons (Holds single answer) allowed (sizes ++ ends)
+      (right.0, λ k rung at. record { size = (are.each k rung at).size; allow = one_allows p rung.set (are.each k rung at).heaviest.passes; priced = (are.each k rung at).priced })
+      (All-append (Holds single answer) sizes ends
+      (all_in_all (λ (rung : PlainRung). size_facts (w ∷ []) rung.set) (Holds single answer) rungs sizes_hold) (ends_hold (slice_get rungs (last_rung rungs)) refl))
+
+  each_bound : (k : ℕ) (rung : PlainRung) → slice_get rungs k ≡ Some rung → BoundsSize single (allowed ∷ sizes ++ ends) k rung.weight
+  each_bound k rung at =
+      let tell = λ (fact : Fact) (h : Contains (size_facts (w ∷ []) rung.set) fact).
+      stands_later fact allowed (sizes ++ ends) (Contains-append_left sizes ends fact
+      (stands_in_all (λ (rung : PlainRung). size_facts (w ∷ []) rung.set) rungs k rung fact at h)) in
+      bound_by_one single (allowed ∷ sizes ++ ends) k rung.weight rung.set (are.each k rung at).size refl w
+      (tell (shared (w ∷ [])) (0, omega arith, refl)) (tell (few_above 0 w (terms_of w rung.set)) (1, omega arith, refl))
+      (at_most_same _ _ (sym (are.each k rung at).priced))
+
+  no_larger : ShowsNoLarger single (allowed ∷ sizes ++ ends) (length rungs)
+  no_larger = elim (slice_get_cases rungs (last_rung rungs)).1 [
+    | inl found ↦
+        (let rung = found.0 in
+        let says : Contains ends (full rung.set) = subst (λ o. Contains (last_facts o) (full rung.set)) (sym found.2) (0, omega arith, refl) in
+        let size = (are.each (last_rung rungs) rung found.2).size in
+        inr (inr (record {
+          one_rule = refl;
+          set = rung.set;
+          says_full = stands_later (full rung.set) allowed (sizes ++ ends) (Contains-append_right sizes ends (full rung.set) says);
+          few = let some = are.some in omega arith;
+        })))
+    | inr past ↦ (let some = are.some in absurd (omega (arith, past.0)))
+  ]
+
+  pub best_gives : GivesReason (list w (matroid ∷ [])) (best n rungs)
+  best_gives = (
+    rungs_hold,
+    record { says_allowed = (0, omega arith, refl); each = λ k rung at. inr (each_bound k rung at); larger = no_larger },
+  )

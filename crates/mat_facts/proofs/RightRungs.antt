@@ -1,0 +1,138 @@
+-- A right ladder of two rules gives facts that hold and suffice: each rung bounds its size by the terms of its set, and the cut all sizes.
+use Rattle.std.proofs.Common.{◌≡◌, ◌<◌, ◌≤◌, ◌+◌, ℕ, zero, suc, Bool, true, ◌⊎◌, List, [], ◌∷◌, ◌++◌, length, map, Option, None, Some, slice_get, inl, inr, refl, sym, ap, ◌∙◌, subst, arith}
+use Rattle.std.proofs.lemmas.Int.{ints}
+use Rattle.std.proofs.lemmas.List.{length-map}
+use Rattle.std.proofs.lemmas.List.Elements.{All-append, All-cons, Contains-append_left, Contains-append_right}
+use Rattle.std.proofs.lemmas.Option.{same_Some}
+use Rattle.std.specs.List.{All, Contains}
+use Rattle.std.specs.Prelude.{flat_map, option_map}
+use Rattle.mat_sets.specs.Sets.{all_below, minus}
+use Rattle.mat_sets.specs.Weights.{◌⊕◌, ◌≼◌, weight, weight_at, zero_weight}
+use Rattle.mat_sets.specs.declared.weight.Weight.{Weight}
+use Rattle.mat_sets.proofs.Ground.{IsSet-all_below, IsSet-minus}
+use Rattle.mat_sets.proofs.WeightOrder.{at_most_same, pairs}
+use Rattle.mat_laws.specs.Ladders.{IsRung}
+use Rattle.mat_laws.specs.Matroids.{IsMatroid}
+use Rattle.mat_laws.specs.Ranks.{rank}
+use Rattle.mat_laws.proofs.BestLadders.{split_weight}
+use Rattle.mat_problem.specs.Instances.{Instance}
+use Rattle.mat_cert.specs.Certificates.{Certificate, last_rung}
+use Rattle.mat_cert.specs.declared.answer.PlainRung.{PlainRung}
+use Rattle.mat_cert.specs.declared.answer.PricedRung.{PricedRung}
+use Rattle.mat_right.specs.Right.{IsRightLadder, IsRightPricedRung}
+use Rattle.mat_facts.specs.Allowances.{AddUp, AllowsAtMost, HasFewAbove}
+use Rattle.mat_facts.specs.Answers.{AreAllowedRungs, IsAllowedRung, plain_rung}
+use Rattle.mat_facts.specs.Facts.{Fact, allowed, at_most, few_above, shared}
+use Rattle.mat_facts.specs.Holding.{Holds}
+use Rattle.mat_facts.specs.Problems.{AllAllow, rule_count, size_of, weights_of}
+use Rattle.mat_facts.specs.Reasons.{cut_facts, ladder_facts, shares_of, size_facts}
+use Rattle.mat_facts.specs.Sufficing.{BoundsSize, IsNothing, ShowsEachRung, ShowsNoLarger}
+use Rattle.mat_facts.proofs.GivenBounds.{allows_rank, bound_by_two, divided_by_cut, terms_of}
+use Rattle.mat_facts.proofs.HeaviestTerms.{terms_of_heaviest}
+use Rattle.mat_facts.proofs.ListedFacts.{all_in_all, all_three, all_two, stands_in_all, stands_later}
+
+-- a rung without its split comes of one that has it
+of_mapped : (rungs : List PricedRung) (k : ℕ) (rung : PlainRung) → slice_get (map plain_rung rungs) k ≡ Some rung
+    → (found : PricedRung) × (slice_get rungs k ≡ Some found) × (plain_rung found ≡ rung)
+of_mapped [] k rung at = absurd (none at)
+  where
+    none : None ≡ Some rung → ⊥
+    none e = cc
+of_mapped (r ∷ rs) zero rung at = (r, refl, same_Some _ _ at)
+of_mapped (r ∷ rs) (suc k) rung at = of_mapped rs k rung at
+
+-- two shares of each element
+pub two_shares_add : (n : ℕ) (w first second : List Weight) → ((e : ℕ) → e < n → weight_at first e ⊕ weight_at second e ≡ weight_at w e)
+    → AddUp n 2 w (first ∷ second ∷ [])
+two_shares_add n w first second h e l = let sum = h e l in omega (arith, ints, pairs)
+
+-- what holds of the facts of a size by two shares
+pub size_holds : (H : Fact → Type 0) (first second : List Weight) (set : List ℕ) → H (shared (first ∷ second ∷ []))
+    → H (few_above 0 first (terms_of first set)) → H (few_above 1 second (terms_of second set)) → All H (size_facts (first ∷ second ∷ []) set)
+size_holds H first second set a b c =
+    all_three H (shared (first ∷ second ∷ [])) (few_above 0 first (terms_of first set)) (few_above 1 second (terms_of second set)) a b c
+
+module _ (problem : Instance) (answer : Certificate) (n : ℕ) (p q : List ℕ → Bool) (w : List Weight) (lp : IsMatroid n p) (lq : IsMatroid n q)
+    (rungs : List PricedRung) (cut : List ℕ) (right : IsRightLadder n p q w rungs cut) where
+  -- what a form of answer adds: that facts on the two rules are facts of the problem
+  module _ (holds_allowed : Holds problem answer allowed)
+      (holds_shares : (shares : List (List Weight)) → AddUp n 2 w shares → Holds problem answer (shared shares))
+      (holds_first : (share terms : List Weight) → HasFewAbove p share terms → Holds problem answer (few_above 0 share terms))
+      (holds_second : (share terms : List Weight) → HasFewAbove q share terms → Holds problem answer (few_above 1 share terms))
+      (holds_outer : (S : List ℕ) (c : ℕ) → AllowsAtMost n p S c → Holds problem answer (at_most 0 S c))
+      (holds_inner : (S : List ℕ) (c : ℕ) → AllowsAtMost n q S c → Holds problem answer (at_most 1 S c)) where
+    rung_holds : (k : ℕ) (rung : PricedRung) → slice_get rungs k ≡ Some rung → All (Holds problem answer) (size_facts (shares_of rung) rung.set)
+    rung_holds k rung at =
+        let is = (right.each k rung at).right in
+        size_holds (Holds problem answer) rung.first rung.second rung.set
+        (holds_shares (shares_of rung) (two_shares_add n w rung.first rung.second is.split))
+        (holds_first rung.first (terms_of rung.first rung.set) (terms_of_heaviest lp (weight_at rung.first) rung.set is.first_heaviest))
+        (holds_second rung.second (terms_of rung.second rung.set) (terms_of_heaviest lq (weight_at rung.second) rung.set is.second_heaviest))
+
+    cut_holds : All (Holds problem answer) (cut_facts n p q cut)
+    cut_holds =
+        let outer = minus (all_below n) cut in
+        all_two (Holds problem answer) (at_most 0 outer (rank p outer)) (at_most 1 cut (rank q cut))
+        (holds_outer outer (rank p outer) (allows_rank lp outer (IsSet-minus n (all_below n) cut (IsSet-all_below n))))
+        (holds_inner cut (rank q cut) (allows_rank lq cut right.ends.set))
+
+    pub ladder_holds : All (Holds problem answer) (ladder_facts n p q rungs cut)
+    ladder_holds =
+        let sizes = flat_map (λ (rung : PricedRung). size_facts (shares_of rung) rung.set) rungs in
+        All-cons (Holds problem answer) allowed (sizes ++ cut_facts n p q cut) holds_allowed
+        (All-append (Holds problem answer) sizes (cut_facts n p q cut)
+        (all_in_all (λ (rung : PricedRung). size_facts (shares_of rung) rung.set) (Holds problem answer) rungs rung_holds) cut_holds)
+
+  -- the sets are allowed
+  pub ladder_allowed : (weights_of problem ≡ w) → ((X : List ℕ) → p X ≡ true → q X ≡ true → AllAllow problem X)
+      → AreAllowedRungs problem (map plain_rung rungs)
+  ladder_allowed same two k rung at =
+      let found = of_mapped rungs k rung at in
+      let r = right.each k found.0 found.1 in
+      subst (IsAllowedRung problem k) found.2 (record {
+        size = r.right.size;
+        allow = two found.0.set r.right.first_heaviest.passes r.right.second_heaviest.passes;
+        priced = r.priced ∙ ap (λ v. weight v found.0.set) (sym same);
+      })
+
+  -- they suffice, in any list in which they stand
+  module _ (two : rule_count problem ≡ 2) (size : size_of problem ≡ n) (facts : List Fact)
+      (within : (fact : Fact) → Contains (ladder_facts n p q rungs cut) fact → Contains facts fact) where
+    abbrev in_ladder : List Fact
+    in_ladder = flat_map (λ (rung : PricedRung). size_facts (shares_of rung) rung.set) rungs
+
+    of_rung : (k : ℕ) (rung : PricedRung) → slice_get rungs k ≡ Some rung → (fact : Fact)
+        → Contains (size_facts (shares_of rung) rung.set) fact → Contains facts fact
+    of_rung k rung at fact h =
+        within fact (stands_later fact allowed (in_ladder ++ cut_facts n p q cut) (Contains-append_left in_ladder (cut_facts n p q cut) fact
+        (stands_in_all (λ (rung : PricedRung). size_facts (shares_of rung) rung.set) rungs k rung fact at h)))
+
+    of_cut : (fact : Fact) → Contains (cut_facts n p q cut) fact → Contains facts fact
+    of_cut fact h = within fact (stands_later fact allowed (in_ladder ++ cut_facts n p q cut) (Contains-append_right in_ladder (cut_facts n p q cut) fact h))
+
+    pub rung_bounds : (k : ℕ) (rung : PricedRung) → slice_get rungs k ≡ Some rung → BoundsSize problem facts k rung.weight
+    rung_bounds k rung at =
+        let r = right.each k rung at in
+        let is = r.right in
+        let tell = of_rung k rung at in
+        let split = split_weight n p q w k rung.set rung.first rung.second is rung.set (lp.sets rung.set is.first_heaviest.passes) in
+        bound_by_two problem facts k rung.weight rung.set is.size two rung.first rung.second
+        (tell (shared (shares_of rung)) (0, omega arith, refl)) (tell (few_above 0 rung.first (terms_of rung.first rung.set)) (1, omega arith, refl))
+        (tell (few_above 1 rung.second (terms_of rung.second rung.set)) (2, omega arith, refl))
+        (at_most_same _ _ (sym (r.priced ∙ split)))
+
+    pub no_larger : ShowsNoLarger problem facts (length rungs)
+    no_larger =
+        let outer = minus (all_below n) cut in
+        inr (inl (divided_by_cut problem facts (length rungs) n cut (rank p outer) (rank q cut) two size
+        (of_cut (at_most 0 outer (rank p outer)) (0, omega arith, refl)) (of_cut (at_most 1 cut (rank q cut)) (1, omega arith, refl))
+        (let some = right.some in let ranks = right.ends.ranks in omega arith)))
+
+    pub each_rung_shown : ShowsEachRung problem (map plain_rung rungs) facts
+    each_rung_shown = record {
+      says_allowed = within allowed (0, omega arith, refl);
+      each = λ k rung at.
+          let found = of_mapped rungs k rung at in
+          subst (λ (r : PlainRung). IsNothing k r.weight ⊎ BoundsSize problem facts k r.weight) found.2 (inr (rung_bounds k found.0 found.1));
+      larger = subst (ShowsNoLarger problem facts) (sym (length-map rungs plain_rung)) no_larger;
+    }
