@@ -11,3 +11,7 @@ pub mod ListedFacts
 pub mod GivenBounds
 pub mod RightRungs
 pub mod RightLadderReasons
+pub mod SufficientLadders
+pub mod SufficientSets
+pub mod SufficientGraphs
+pub mod SufficientFacts
