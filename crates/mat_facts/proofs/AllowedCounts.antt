@@ -29,7 +29,7 @@ rank_at_most {n} {p} laws S c h =
     omega (arith, r.size)
 
 -- the first of so many numbers, and then the others
-count_front : (f : ℕ → ℕ) (m : ℕ) → count_of_first f (suc m) ≡ f 0 + count_of_first (λ i. f (suc i)) m
+pub count_front : (f : ℕ → ℕ) (m : ℕ) → count_of_first f (suc m) ≡ f 0 + count_of_first (λ i. f (suc i)) m
 count_front f zero = omega arith
 count_front f (suc m) = let before = count_front f m in omega arith
 

@@ -20,8 +20,8 @@ use Rattle.mat_facts.specs.Facts.{Fact, at_most, few_above, shared}
 use Rattle.mat_facts.specs.Problems.{rule_count, size_of}
 use Rattle.mat_facts.specs.Sufficing.{BoundsSize, DividesElements}
 use Rattle.mat_facts.specs.Terms.{count_of_first, falling_terms, list_at, step_at, sum_of_first}
-use Rattle.mat_facts.proofs.FallingTerms.{length-falling_terms, sum-falling_terms}
-use Rattle.mat_facts.proofs.TermSums.{sums_exchange}
+use Rattle.mat_facts.proofs.FallingTerms.{length-falling_terms, sum-falling_terms, terms_fall}
+use Rattle.mat_facts.proofs.TermSums.{sums_exchange, sums_grow}
 
 -- a rule allows at most the rank
 pub allows_rank : {n : ℕ} {p : List ℕ → Bool} → IsMatroid n p → (S : List ℕ) → IsSet n S → AllowsAtMost n p S (rank p S)
@@ -56,22 +56,37 @@ total_of_two first second set =
     let other = sum-falling_terms (weight_at second) set in
     omega (arith, ints, pairs)
 
+-- a bound whose steps fall
+pub record FallingBound (problem : Instance) (facts : List Fact) (k : ℕ) (most : Weight) : Type 0 where
+  pub bound : BoundsSize problem facts k most
+  pub falls : (i j : ℕ) → i ≤ j → j < k → step_at bound.terms (rule_count problem) j ≼ step_at bound.terms (rule_count problem) i
+
 module _ (problem : Instance) (facts : List Fact) (k : ℕ) (most : Weight) (set : List ℕ) (size : length set ≡ k) where
   pub bound_by_one : rule_count problem ≡ 1 → (w : List Weight) → Contains facts (shared (w ∷ []))
-      → Contains facts (few_above 0 w (terms_of w set)) → weight w set ≼ most → BoundsSize problem facts k most
+      → Contains facts (few_above 0 w (terms_of w set)) → weight w set ≼ most → FallingBound problem facts k most
   bound_by_one one w says says_few le = record {
-    shares = w ∷ [];
-    terms = one_list w set;
-    says_shares = says;
-    says_terms = by_rule;
-    long = long;
-    total = subst (λ r. sum_of_first (step_at (one_list w set) r) k ≼ most) (sym one)
-        (subst (λ m. sum_of_first (step_at (one_list w set) 1) m ≼ most) size (subst (λ v. v ≼ most) (sym (total_of_one w set)) le));
+    bound = record {
+      shares = w ∷ [];
+      terms = one_list w set;
+      says_shares = says;
+      says_terms = by_rule;
+      long = long;
+      total = subst (λ r. sum_of_first (step_at (one_list w set) r) k ≼ most) (sym one)
+          (subst (λ m. sum_of_first (step_at (one_list w set) 1) m ≼ most) size (subst (λ v. v ≼ most) (sym (total_of_one w set)) le));
+    };
+    falls = λ i j le l.
+        sums_grow (λ r. weight_at (list_at (one_list w set) r) j) (λ r. weight_at (list_at (one_list w set) r) i) (rule_count problem)
+        (λ r under. falling r i j under le (omega (arith, size)));
   }
     where
       by_rule : (i : ℕ) → i < rule_count problem → Contains facts (few_above i (list_at (w ∷ []) i) (list_at (one_list w set) i))
       by_rule zero l = says_few
       by_rule (suc i) l = absurd (omega (arith, one))
+
+      falling : (r i j : ℕ) → r < rule_count problem → i ≤ j → j < length set
+          → weight_at (list_at (one_list w set) r) j ≼ weight_at (list_at (one_list w set) r) i
+      falling zero i j under le l = terms_fall (weight_at w) set i j le l
+      falling (suc r) i j under le l = absurd (omega (arith, one))
 
       long : (i : ℕ) → i < rule_count problem → length (list_at (one_list w set) i) ≡ k
       long zero l = length-falling_terms (weight_at w) set ∙ size
@@ -79,16 +94,21 @@ module _ (problem : Instance) (facts : List Fact) (k : ℕ) (most : Weight) (set
 
   pub bound_by_two : rule_count problem ≡ 2 → (first second : List Weight) → Contains facts (shared (first ∷ second ∷ []))
       → Contains facts (few_above 0 first (terms_of first set)) → Contains facts (few_above 1 second (terms_of second set))
-      → (weight first set ⊕ weight second set) ≼ most → BoundsSize problem facts k most
+      → (weight first set ⊕ weight second set) ≼ most → FallingBound problem facts k most
   bound_by_two two first second says says_first says_second le = record {
-    shares = first ∷ second ∷ [];
-    terms = two_lists first second set;
-    says_shares = says;
-    says_terms = by_rule;
-    long = long;
-    total = subst (λ r. sum_of_first (step_at (two_lists first second set) r) k ≼ most) (sym two)
-        (subst (λ m. sum_of_first (step_at (two_lists first second set) 2) m ≼ most) size
-        (subst (λ v. v ≼ most) (sym (total_of_two first second set)) le));
+    bound = record {
+      shares = first ∷ second ∷ [];
+      terms = two_lists first second set;
+      says_shares = says;
+      says_terms = by_rule;
+      long = long;
+      total = subst (λ r. sum_of_first (step_at (two_lists first second set) r) k ≼ most) (sym two)
+          (subst (λ m. sum_of_first (step_at (two_lists first second set) 2) m ≼ most) size
+          (subst (λ v. v ≼ most) (sym (total_of_two first second set)) le));
+    };
+    falls = λ i j le l.
+        sums_grow (λ r. weight_at (list_at (two_lists first second set) r) j) (λ r. weight_at (list_at (two_lists first second set) r) i)
+        (rule_count problem) (λ r under. falling r i j under le (omega (arith, size)));
   }
     where
       by_rule : (i : ℕ) → i < rule_count problem
@@ -96,6 +116,12 @@ module _ (problem : Instance) (facts : List Fact) (k : ℕ) (most : Weight) (set
       by_rule zero l = says_first
       by_rule (suc zero) l = says_second
       by_rule (suc (suc i)) l = absurd (omega (arith, two))
+
+      falling : (r i j : ℕ) → r < rule_count problem → i ≤ j → j < length set
+          → weight_at (list_at (two_lists first second set) r) j ≼ weight_at (list_at (two_lists first second set) r) i
+      falling zero i j under le l = terms_fall (weight_at first) set i j le l
+      falling (suc zero) i j under le l = terms_fall (weight_at second) set i j le l
+      falling (suc (suc r)) i j under le l = absurd (omega (arith, two))
 
       long : (i : ℕ) → i < rule_count problem → length (list_at (two_lists first second set) i) ≡ k
       long zero l = length-falling_terms (weight_at first) set ∙ size

@@ -26,8 +26,10 @@ use Rattle.mat_facts.specs.Facts.{Fact, allowed, falls_apart, few_above, full, s
 use Rattle.mat_facts.specs.Holding.{Holds}
 use Rattle.mat_facts.specs.Problems.{size_of}
 use Rattle.mat_facts.specs.Reasons.{colours_facts, ladder_facts, last_facts, reason_of, size_facts}
-use Rattle.mat_facts.specs.Sufficing.{BoundsSize, ShowsEachRung, ShowsNoLarger, Suffice}
-use Rattle.mat_facts.proofs.GivenBounds.{bound_by_one, terms_of}
+use Rattle.mat_facts.specs.Answers.{AreAllowedRungs, rungs_of}
+use Rattle.mat_facts.specs.Sufficing.{ShowsNoLarger, Suffice}
+use Rattle.mat_facts.proofs.BestOfRungs.{ShowsFallingRungs}
+use Rattle.mat_facts.proofs.GivenBounds.{FallingBound, bound_by_one, terms_of}
 use Rattle.mat_facts.proofs.HeaviestTerms.{terms_of_heaviest}
 use Rattle.mat_facts.proofs.ListedFacts.{all_in_all, all_one, all_two, stands_in_all, stands_later}
 use Rattle.mat_facts.proofs.RightRungs.{each_rung_shown, ladder_allowed, ladder_holds}
@@ -37,8 +39,14 @@ use Rattle.mat_facts.proofs.RulesOfProblems.{both_allow, one_allows, rules_are_m
 abbrev pub GivesReason : Instance → Certificate → Type 0
 GivesReason problem answer = All (Holds problem answer) (reason_of problem answer) × Suffice problem answer (reason_of problem answer)
 
+-- the facts of an answer with a set of each size hold, its sets are allowed, and each bounds its size by steps that fall
+pub record GivesRungs (problem : Instance) (answer : Certificate) : Type 0 where
+  pub hold : All (Holds problem answer) (reason_of problem answer)
+  pub are : AreAllowedRungs problem (rungs_of answer)
+  pub rungs : ShowsFallingRungs problem (rungs_of answer) (reason_of problem answer)
+
 pub intersection_gives : (w : List Weight) (first second : Tree) (n : ℕ) (rungs : List PricedRung) (cut : List ℕ) → IsValid (pair w first second)
-    → IsRight (pair w first second) (intersect n rungs cut) → GivesReason (pair w first second) (intersect n rungs cut)
+    → IsRight (pair w first second) (intersect n rungs cut) → GivesRungs (pair w first second) (intersect n rungs cut)
 intersection_gives w first second n rungs cut valid right =
     let problem = pair w first second in
     let answer = intersect n rungs cut in
@@ -48,15 +56,17 @@ intersection_gives w first second n rungs cut valid right =
     let laws = rules_are_matroids problem valid in
     let lp : IsMatroid (length w) p = laws.each 0 (omega arith) in
     let lq : IsMatroid (length w) q = laws.each 1 (omega arith) in
-    let are = ladder_allowed problem answer (length w) p q w lp lq rungs cut ladder refl (both_allow p q) in (
-      ladder_holds problem answer (length w) p q w lp lq rungs cut ladder (right.0, are)
-      (λ shares h. h) (λ share terms h. h) (λ share terms h. h) (λ S c h. h) (λ S c h. h),
-      each_rung_shown problem answer (length w) p q w lp lq rungs cut ladder refl refl (reason_of problem answer) (λ fact h. h),
-    )
+    let are = ladder_allowed problem answer (length w) p q w lp lq rungs cut ladder refl (both_allow p q) in
+    record {
+      hold = ladder_holds problem answer (length w) p q w lp lq rungs cut ladder (right.0, are)
+          (λ shares h. h) (λ share terms h. h) (λ share terms h. h) (λ S c h. h) (λ S c h. h);
+      are = are;
+      rungs = each_rung_shown problem answer (length w) p q w lp lq rungs cut ladder refl refl (reason_of problem answer) (λ fact h. h);
+    }
 
 pub assignment_gives : (rows columns : ℕ) (cells : List (ℕ × ℕ)) (w : List Weight) (n r c : ℕ) (rungs : List PricedRung) (cut : List ℕ)
     → IsValid (table rows columns cells w) → IsRight (table rows columns cells w) (assign n r c rungs cut)
-    → GivesReason (table rows columns cells w) (assign n r c rungs cut)
+    → GivesRungs (table rows columns cells w) (assign n r c rungs cut)
 assignment_gives rows columns cells w n r c rungs cut valid right =
     let problem = table rows columns cells w in
     let answer = assign n r c rungs cut in
@@ -68,11 +78,13 @@ assignment_gives rows columns cells w n r c rungs cut valid right =
     let laws = rules_are_matroids problem valid in
     let lp : IsMatroid m p = laws.each 0 (omega arith) in
     let lq : IsMatroid m q = laws.each 1 (omega arith) in
-    let are = ladder_allowed problem answer m p q w lp lq rungs cut ladder refl (both_allow p q) in (
-      ladder_holds problem answer m p q w lp lq rungs cut ladder (right.0, are)
-      (λ shares h. h) (λ share terms h. h) (λ share terms h. h) (λ S c h. h) (λ S c h. h),
-      each_rung_shown problem answer m p q w lp lq rungs cut ladder refl refl (reason_of problem answer) (λ fact h. h),
-    )
+    let are = ladder_allowed problem answer m p q w lp lq rungs cut ladder refl (both_allow p q) in
+    record {
+      hold = ladder_holds problem answer m p q w lp lq rungs cut ladder (right.0, are)
+          (λ shares h. h) (λ share terms h. h) (λ share terms h. h) (λ S c h. h) (λ S c h. h);
+      are = are;
+      rungs = each_rung_shown problem answer m p q w lp lq rungs cut ladder refl refl (reason_of problem answer) (λ fact h. h);
+    }
 
 module _ (vertices colours : ℕ) (edges : List (ℕ × ℕ)) (colour_of : List ℕ) (w : List Weight) (n v c : ℕ) (rungs : List PricedRung) (cut : List ℕ) where
   abbrev colour : ℕ → ℕ
@@ -90,7 +102,7 @@ module _ (vertices colours : ℕ) (edges : List (ℕ × ℕ)) (colour_of : List 
       all_one (Holds problem (rainbow n v c rungs cut other)) (falls_apart C count) (h.1.set, refl)
 
   pub rainbow_gives : (missing : Option (List ℕ)) → IsValid problem → IsRight problem (rainbow n v c rungs cut missing)
-      → GivesReason problem (rainbow n v c rungs cut missing)
+      → GivesRungs problem (rainbow n v c rungs cut missing)
   rainbow_gives missing valid right =
       let answer = rainbow n v c rungs cut missing in
       let m = length edges in
@@ -102,14 +114,16 @@ module _ (vertices colours : ℕ) (edges : List (ℕ × ℕ)) (colour_of : List 
       let lp : IsMatroid m p = laws.each 0 (omega arith) in
       let lq : IsMatroid m q = laws.each 1 (omega arith) in
       let are = ladder_allowed problem answer m p q w lp lq rungs cut is.ladder refl (both_allow p q) in
-      let extra = colours_facts vertices m (ends_of edges) colour missing in (
-        All-append (Holds problem answer) (ladder_facts m p q rungs cut) extra
-        (ladder_holds problem answer m p q w lp lq rungs cut is.ladder (right.0, are)
-        (λ shares h. h) (λ share terms h. h) (λ share terms h. h) (λ S c h. h) (λ S c h. h))
-        (colours_hold missing missing is.missing_colours),
-        each_rung_shown problem answer m p q w lp lq rungs cut is.ladder refl refl (reason_of problem answer)
-        (λ fact h. Contains-append_left (ladder_facts m p q rungs cut) extra fact h),
-      )
+      let extra = colours_facts vertices m (ends_of edges) colour missing in
+      record {
+        hold = All-append (Holds problem answer) (ladder_facts m p q rungs cut) extra
+            (ladder_holds problem answer m p q w lp lq rungs cut is.ladder (right.0, are)
+            (λ shares h. h) (λ share terms h. h) (λ share terms h. h) (λ S c h. h) (λ S c h. h))
+            (colours_hold missing missing is.missing_colours);
+        are = are;
+        rungs = each_rung_shown problem answer m p q w lp lq rungs cut is.ladder refl refl (reason_of problem answer)
+            (λ fact h. Contains-append_left (ladder_facts m p q rungs cut) extra fact h);
+      }
 
 -- ---- of one matroid
 
@@ -148,14 +162,18 @@ module _ (w : List Weight) (matroid : Tree) (n : ℕ) (rungs : List PlainRung) (
       all_two (Holds single answer) (shared (w ∷ [])) (few_above 0 w (terms_of w rung.set)) whole
       (terms_of_heaviest lp (weight_at w) rung.set (are.each k rung at).heaviest)
 
+  are_allowed : AreAllowedRungs single rungs
+  are_allowed k rung at =
+      let is = are.each k rung at in
+      record { size = is.size; allow = one_allows p rung.set is.heaviest.passes; priced = is.priced }
+
   rungs_hold : All (Holds single answer) (allowed ∷ sizes ++ ends)
   rungs_hold =
-      All-cons (Holds single answer) allowed (sizes ++ ends)
-      (right.0, λ k rung at. record { size = (are.each k rung at).size; allow = one_allows p rung.set (are.each k rung at).heaviest.passes; priced = (are.each k rung at).priced })
+      All-cons (Holds single answer) allowed (sizes ++ ends) (right.0, are_allowed)
       (All-append (Holds single answer) sizes ends
       (all_in_all (λ (rung : PlainRung). size_facts (w ∷ []) rung.set) (Holds single answer) rungs sizes_hold) (ends_hold (slice_get rungs (last_rung rungs)) refl))
 
-  each_bound : (k : ℕ) (rung : PlainRung) → slice_get rungs k ≡ Some rung → BoundsSize single (allowed ∷ sizes ++ ends) k rung.weight
+  each_bound : (k : ℕ) (rung : PlainRung) → slice_get rungs k ≡ Some rung → FallingBound single (allowed ∷ sizes ++ ends) k rung.weight
   each_bound k rung at =
       let tell = λ (fact : Fact) (h : Contains (size_facts (w ∷ []) rung.set) fact).
       stands_later fact allowed (sizes ++ ends) (Contains-append_left sizes ends fact
@@ -179,8 +197,9 @@ module _ (w : List Weight) (matroid : Tree) (n : ℕ) (rungs : List PlainRung) (
     | inr past ↦ (let some = are.some in absurd (omega (arith, past.0)))
   ]
 
-  pub best_gives : GivesReason (list w (matroid ∷ [])) (best n rungs)
-  best_gives = (
-    rungs_hold,
-    record { says_allowed = (0, omega arith, refl); each = λ k rung at. inr (each_bound k rung at); larger = no_larger },
-  )
+  pub best_gives : GivesRungs (list w (matroid ∷ [])) (best n rungs)
+  best_gives = record {
+    hold = rungs_hold;
+    are = are_allowed;
+    rungs = record { says_allowed = (0, omega arith, refl); each = each_bound; larger = no_larger };
+  }

@@ -26,9 +26,10 @@ use Rattle.mat_facts.specs.Facts.{Fact, allowed, at_most, few_above, shared}
 use Rattle.mat_facts.specs.Holding.{Holds}
 use Rattle.mat_facts.specs.Problems.{AllAllow, rule_count, size_of, weights_of}
 use Rattle.mat_facts.specs.Reasons.{cut_facts, ladder_facts, shares_of, size_facts}
-use Rattle.mat_facts.specs.Sufficing.{BoundsSize, IsNothing, ShowsEachRung, ShowsNoLarger}
-use Rattle.mat_facts.proofs.GivenBounds.{allows_rank, bound_by_two, divided_by_cut, terms_of}
+use Rattle.mat_facts.specs.Sufficing.{ShowsNoLarger}
+use Rattle.mat_facts.proofs.GivenBounds.{FallingBound, allows_rank, bound_by_two, divided_by_cut, terms_of}
 use Rattle.mat_facts.proofs.HeaviestTerms.{terms_of_heaviest}
+use Rattle.mat_facts.proofs.BestOfRungs.{ShowsFallingRungs}
 use Rattle.mat_facts.proofs.ListedFacts.{all_in_all, all_three, all_two, stands_in_all, stands_later}
 
 -- a rung without its split comes of one that has it
@@ -110,7 +111,7 @@ module _ (problem : Instance) (answer : Certificate) (n : ℕ) (p q : List ℕ �
     of_cut : (fact : Fact) → Contains (cut_facts n p q cut) fact → Contains facts fact
     of_cut fact h = within fact (stands_later fact allowed (in_ladder ++ cut_facts n p q cut) (Contains-append_right in_ladder (cut_facts n p q cut) fact h))
 
-    pub rung_bounds : (k : ℕ) (rung : PricedRung) → slice_get rungs k ≡ Some rung → BoundsSize problem facts k rung.weight
+    pub rung_bounds : (k : ℕ) (rung : PricedRung) → slice_get rungs k ≡ Some rung → FallingBound problem facts k rung.weight
     rung_bounds k rung at =
         let r = right.each k rung at in
         let is = r.right in
@@ -128,11 +129,11 @@ module _ (problem : Instance) (answer : Certificate) (n : ℕ) (p q : List ℕ �
         (of_cut (at_most 0 outer (rank p outer)) (0, omega arith, refl)) (of_cut (at_most 1 cut (rank q cut)) (1, omega arith, refl))
         (let some = right.some in let ranks = right.ends.ranks in omega arith)))
 
-    pub each_rung_shown : ShowsEachRung problem (map plain_rung rungs) facts
+    pub each_rung_shown : ShowsFallingRungs problem (map plain_rung rungs) facts
     each_rung_shown = record {
       says_allowed = within allowed (0, omega arith, refl);
       each = λ k rung at.
           let found = of_mapped rungs k rung at in
-          subst (λ (r : PlainRung). IsNothing k r.weight ⊎ BoundsSize problem facts k r.weight) found.2 (inr (rung_bounds k found.0 found.1));
+          subst (λ (r : PlainRung). FallingBound problem facts k r.weight) found.2 (rung_bounds k found.0 found.1);
       larger = subst (ShowsNoLarger problem facts) (sym (length-map rungs plain_rung)) no_larger;
     }

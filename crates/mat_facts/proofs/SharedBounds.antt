@@ -15,18 +15,18 @@ use Rattle.mat_facts.proofs.TermSums.{sum_falls, sum_rises, sums_agree, sums_exc
 
 -- ---- the number of a term, or of the last one
 
-unfoldable last_from : ℕ → ℕ → ℕ
+unfoldable pub last_from : ℕ → ℕ → ℕ
 last_from j l = cond (ltb l j) l (j - 1)
 
-before_last : (j l : ℕ) → l < j → last_from j l ≡ l
+pub before_last : (j l : ℕ) → l < j → last_from j l ≡ l
 unfolding last_from
 before_last j l h = rw (lt-ltb l j h) refl
 
-past_last : (j l : ℕ) → j ≤ l → last_from j l ≡ j - 1
+pub past_last : (j l : ℕ) → j ≤ l → last_from j l ≡ j - 1
 unfolding last_from
 past_last j l h = rw (false_from_ne_true (ltb l j) (λ t. let less = ltb-true l j t in let no : ⊥ = absurd (omega arith) in no)) refl
 
-last_low : (j l : ℕ) → last_from j l ≤ l
+pub last_low : (j l : ℕ) → last_from j l ≤ l
 unfolding last_from
 last_low j l = by (ltb l j) refl
   where
@@ -34,7 +34,7 @@ last_low j l = by (ltb l j) refl
     by true e = omega arith
     by false e = let le = ltb-false l j e in omega arith
 
-last_inside : (j l size : ℕ) → 0 < j → size ≡ j → last_from j l < size
+pub last_inside : (j l size : ℕ) → 0 < j → size ≡ j → last_from j l < size
 unfolding last_from
 last_inside j l size some e = by (ltb l j) refl
   where

@@ -31,6 +31,7 @@ use Rattle.mat_facts.specs.Facts.{Fact, allowed, groups, between, falls_apart, w
 use Rattle.mat_facts.specs.Holding.{AreGroups, Holds}
 use Rattle.mat_facts.specs.Problems.{AllAllow}
 use Rattle.mat_facts.specs.Sufficing.{BoundsSize, IsNothing, ShowsNoArborescences, ShowsNoRainbowTree, ShowsNoTrees}
+use Rattle.mat_facts.proofs.NegatedCosts.{negated_weight}
 use Rattle.mat_facts.proofs.RulesOfProblems.{both_allow}
 use Rattle.mat_facts.proofs.SufficientBounds.{said, size_is_bounded}
 
@@ -80,16 +81,6 @@ module _ (vertices root : ℕ) (arcs : List (ℕ × ℕ)) (costs : List Weight) 
 module _ (vertices root : ℕ) (arcs : List (ℕ × ℕ)) (costs : List Weight) (n : ℕ) (cost : Weight) (tree : List ℕ) (first second : List Weight)
     (facts : List Fact) (valid : IsValid (rooted vertices root arcs costs))
     (hold : All (Holds (rooted vertices root arcs costs) (arbor n cost tree first second)) facts) where
-  negated_sum : (Y : List ℕ) → weight_sum (λ a. negated (weight_at costs a)) Y ≡ negated (weight costs Y)
-  negated_sum [] = refl
-  negated_sum (y ∷ Y) = let later = negated_sum Y in omega (arith, ints, pairs)
-
-  negated_weight : (Y : List ℕ) → IsSet (length arcs) Y → weight (map negated costs) Y ≡ negated (weight costs Y)
-  negated_weight Y set =
-      weight_sum-same (weight_at (map negated costs)) (λ a. negated (weight_at costs a)) Y
-      (λ a m. get_or-map negated costs a zero_weight zero_weight (let l = below_member set m in let long = valid.4 in omega arith))
-      ∙ negated_sum Y
-
   pub least_shown : Contains facts allowed → IsNothing (vertices - 1) (negated cost) ⊎ BoundsSize (rooted vertices root arcs costs) facts (vertices - 1) (negated cost)
       → IsLeastArborescence vertices arcs costs root cost tree
   least_shown says b =
@@ -106,7 +97,7 @@ module _ (vertices root : ℕ) (arcs : List (ℕ × ℕ)) (costs : List Weight) 
             let most = size_is_bounded problem answer facts valid hold (vertices - 1) (negated cost) b other
             (both_allow (is_graphic (length arcs) (ends_of arcs)) (is_entering_once (length arcs) vertices (ends_of arcs) root) other common.0 common.1)
             (let size = spans.size in omega arith) in
-            let there = negated_weight other spans.set in
+            let there = negated_weight arcs costs valid.4 other spans.set in
             let here = is.1 in
             omega (arith, ints, pairs);
       }

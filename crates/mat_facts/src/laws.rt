@@ -1,11 +1,70 @@
-//! Which facts suffice. Each law is the contract of a function that does nothing.
+//! Which facts suffice, and that right answers give them. Each law is the contract of a function that does nothing.
 
-ghost use Rattle.std.specs.Prelude.{◌≡◌, ◌<◌, ◌≤◌, ℕ, List, length};
-ghost use Rattle.mat_sets.specs.{Weights.{◌≼◌, weight_sum}, declared.weight.Weight.{Weight}};
-ghost use Rattle.mat_facts.specs.Terms.{count_above, sum_of_first};
+ghost use Rattle.std.specs.Prelude.{◌≡◌, ◌<◌, ◌⊎◌, ℕ, List, length, slice_get, slice_index, Some, All};
+ghost use Rattle.mat_sets.specs.{Graphs.{ends_of}, Weights.{◌≼◌, weight}, declared.weight.Weight.{Weight}};
+ghost use Rattle.mat_fronts.specs.Rainbow.{IsRainbowTree};
+ghost use Rattle.mat_problem.specs.{Instances.{Instance, coloured}, Validity.{IsValid}};
+ghost use Rattle.mat_cert.specs.{Certificates.{Certificate}, declared.answer.PlainRung.{PlainRung}};
+ghost use Rattle.mat_check.specs.Optimal.{IsOptimal};
+ghost use Rattle.mat_right.specs.Right.{IsRight};
+ghost use Rattle.mat_facts.specs.{
+  Answers.{rungs_of},
+  Facts.{Fact},
+  Holding.{Holds},
+  Problems.{AllAllow, weights_of},
+  Reasons.{reason_of},
+  Sufficing.{BoundsEachSize, BoundsSize, IsNothing, ShowsNoLarger, ShowsNoRainbowTree, Suffice},
+};
 
-/// A set of m members, of which at most l have more than the l-th of m terms, counted from 0, comes to at most the sum of the terms.
-pub fn terms_bound_a_set()
-    ensures { (share term : ℕ → Weight) (m : ℕ) (X : List ℕ) → length X ≡ m
-        → ((l : ℕ) → l < m → count_above share (term l) X ≤ l) → weight_sum share X ≼ sum_of_first term m }
+/// No set of k elements that all rules allow weighs more than facts on shares and terms say (Frank 1981). No law of matroids is used but that
+/// rules allow sets of elements alone.
+pub fn facts_bound_a_size()
+    ensures { (problem : Instance) (answer : Certificate) (facts : List Fact) → IsValid problem → All (Holds problem answer) facts
+        → (k : ℕ) (most : Weight) → IsNothing k most ⊎ BoundsSize problem facts k most
+        → (X : List ℕ) → AllAllow problem X → length X ≡ k → weight (weights_of problem) X ≼ most }
+{}
+
+/// No set that all rules allow has as many elements as facts on some sets exclude (Edmonds).
+pub fn facts_bound_all_sizes()
+    ensures { (problem : Instance) (answer : Certificate) (facts : List Fact) → IsValid problem → All (Holds problem answer) facts
+        → (m : ℕ) → ShowsNoLarger problem facts m → (X : List ℕ) → AllAllow problem X → length X < m }
+{}
+
+/// No set of any size that all rules allow weighs more, by facts on three sizes: fewer elements take the first steps, of which none is below 0,
+/// and more elements add steps of at most 0. That the greatest weights of all sizes are concave is not used.
+pub fn facts_bound_each_size()
+    ensures { (problem : Instance) (answer : Certificate) (facts : List Fact) → IsValid problem → All (Holds problem answer) facts
+        → (k : ℕ) (most : Weight) → BoundsEachSize problem facts k most
+        → (X : List ℕ) → AllAllow problem X → weight (weights_of problem) X ≼ most }
+{}
+
+/// An answer is best where facts hold that suffice for its form: it has the heaviest sets of each size and the largest; the best parts; the
+/// most bases, the fewest sets, or none can be; such trees or arborescences, the cheapest one, or there are none.
+pub fn facts_suffice()
+    ensures { (problem : Instance) (answer : Certificate) (facts : List Fact) → IsValid problem → All (Holds problem answer) facts
+        → Suffice problem answer facts → IsOptimal problem answer }
+{}
+
+/// There is no spanning tree of pairwise different colours where without the edges of some colours too many groups are left (Broersma and Li).
+pub fn facts_exclude_rainbow_trees()
+    ensures { (vertices colours : ℕ) (edges : List (ℕ × ℕ)) (colour_of : List ℕ) (w : List Weight) (answer : Certificate) (facts : List Fact)
+        → IsValid (coloured vertices colours edges colour_of w) → All (Holds (coloured vertices colours edges colour_of w) answer) facts
+        → ShowsNoRainbowTree facts
+        → (X : List ℕ) → ¬ IsRainbowTree vertices (length edges) (ends_of edges) (slice_index colour_of) X }
+{}
+
+/// A right answer gives a reason: each of its facts holds, and together they suffice.
+pub fn right_answers_give_reasons()
+    ensures hold { (problem : Instance) (answer : Certificate) → IsValid problem → IsRight problem answer
+        → All (Holds problem answer) (reason_of problem answer) }
+    ensures suffice { (problem : Instance) (answer : Certificate) → IsValid problem → IsRight problem answer
+        → Suffice problem answer (reason_of problem answer) }
+{}
+
+/// Of a right answer with a set of each size, the heaviest of the sets is shown by the answer's reason to be heaviest of all sizes.
+pub fn heaviest_rung_is_shown()
+    ensures { (problem : Instance) (answer : Certificate) → IsValid problem → IsRight problem answer
+        → (k : ℕ) (rung : PlainRung) → slice_get (rungs_of answer) k ≡ Some rung
+        → ((j : ℕ) (other : PlainRung) → slice_get (rungs_of answer) j ≡ Some other → other.weight ≼ rung.weight)
+        → BoundsEachSize problem (reason_of problem answer) k rung.weight }
 {}

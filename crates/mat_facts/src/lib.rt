@@ -1,7 +1,10 @@
 //! What can be said of a problem and an answer to it, one fact a sentence, and laws that say which facts suffice for the answer to be best. A
-//! reason is a list of facts that hold and suffice.
+//! reason is a list of facts that hold and suffice. The laws speak of facts alone: who has counted them needs no certificate.
 #![tactic(auto)]
 
 mod laws;
 
-pub use laws::terms_bound_a_set;
+pub use laws::{
+    facts_bound_a_size, facts_bound_all_sizes, facts_bound_each_size, facts_exclude_rainbow_trees,
+    facts_suffice, heaviest_rung_is_shown, right_answers_give_reasons,
+};

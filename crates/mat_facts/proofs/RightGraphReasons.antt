@@ -1,0 +1,130 @@
+-- Right answers on graphs give reasons.
+use Rattle.std.proofs.Common.{◌≡◌, ◌<◌, ◌≤◌, ◌-◌, ℕ, suc, Bool, true, false, List, [], ◌∷◌, ◌++◌, length, map, None, Some, inl, inr, refl, sym, ap, ◌∙◌, subst, arith}
+use Rattle.std.proofs.lemmas.Bool.{and_parts, both_ways, ltb-true}
+use Rattle.std.proofs.lemmas.List.{get_or-map}
+use Rattle.std.proofs.lemmas.List.Elements.{All-cons}
+use Rattle.std.specs.List.{All, Contains}
+use Rattle.mat_sets.specs.Graphs.{ends_of, entering, enters, IsUnentered}
+use Rattle.mat_sets.specs.Sets.{all_below, is_member}
+use Rattle.mat_sets.specs.Weights.{◌⊕◌, ◌≼◌, negated, weight, weight_at, zero_weight}
+use Rattle.mat_sets.specs.declared.weight.Weight.{Weight}
+use Rattle.mat_sets.proofs.Crossings.{is_member-entering}
+use Rattle.mat_sets.proofs.DisjointSets.{no_members}
+use Rattle.mat_sets.proofs.Ground.{below_member, is_member-all_below}
+use Rattle.mat_sets.proofs.WeightOrder.{at_most_same}
+use Rattle.mat_sets.proofs.WeightSums.{weight_sum-plus}
+use Rattle.mat_laws.specs.Matroids.{IsMatroid}
+use Rattle.mat_graphic.specs.Forests.{is_graphic}
+use Rattle.mat_packing.specs.Trees.{crossing, AreTrees, IsRightPartition}
+use Rattle.mat_arbor.specs.Arborescences.{IsSplitArborescence}
+use Rattle.mat_arbor.specs.Heads.{is_entering_once}
+use Rattle.mat_branch.specs.Arborescences.{AreDisjointArborescences, IsSeldomEntered}
+use Rattle.mat_problem.specs.Instances.{Instance, graph, rooted}
+use Rattle.mat_problem.specs.Validity.{IsValid}
+use Rattle.mat_cert.specs.Certificates.{Certificate, arbor, disjoint, disjoint_none, trees, trees_none, unreached}
+use Rattle.mat_right.specs.Right.{IsRight}
+use Rattle.mat_facts.specs.Facts.{Fact, allowed, between, entered_by, few_above, groups, shared, without_root}
+use Rattle.mat_facts.specs.Holding.{Holds}
+use Rattle.mat_facts.specs.Reasons.{size_facts}
+use Rattle.mat_facts.proofs.GivenBounds.{bound_by_two, terms_of}
+use Rattle.mat_facts.proofs.HeaviestTerms.{terms_of_heaviest}
+use Rattle.mat_facts.proofs.ListedFacts.{all_one, all_two}
+use Rattle.mat_facts.proofs.NegatedCosts.{negated_weight}
+use Rattle.mat_facts.proofs.RightLadderReasons.{GivesReason}
+use Rattle.mat_facts.proofs.RightRungs.{size_holds, two_shares_add}
+use Rattle.mat_facts.proofs.RulesOfProblems.{rules_are_matroids}
+
+pub trees_give : (vertices : ℕ) (edges : List (ℕ × ℕ)) (n : ℕ) (sets : List (List ℕ)) → IsRight (graph vertices edges) (trees n sets)
+    → GivesReason (graph vertices edges) (trees n sets)
+trees_give vertices edges n sets right = (
+  all_one (Holds (graph vertices edges) (trees n sets)) allowed
+      (right.0, subst (λ m. AreTrees vertices m (ends_of edges) sets) right.0 right.1),
+  (0, omega arith, refl),
+)
+
+pub partition_gives : (vertices : ℕ) (edges : List (ℕ × ℕ)) (n k v : ℕ) (classes : List (List ℕ))
+    → IsRight (graph vertices edges) (trees_none n k v classes) → GivesReason (graph vertices edges) (trees_none n k v classes)
+partition_gives vertices edges n k v classes right =
+    let is : IsRightPartition vertices (length edges) (ends_of edges) k classes =
+    subst (λ m. IsRightPartition vertices m (ends_of edges) k classes) right.0 right.2 in (
+      all_two (Holds (graph vertices edges) (trees_none n k v classes)) (groups classes) (between classes (crossing (length edges) (ends_of edges) classes))
+      (record { filled = is.filled; below = is.below; once = is.once }) refl,
+      record {
+        gs = classes;
+        edges = crossing (length edges) (ends_of edges) classes;
+        says_groups = (0, omega arith, refl);
+        says_between = (1, omega arith, refl);
+        few = is.few;
+      },
+    )
+
+module _ (vertices root : ℕ) (arcs : List (ℕ × ℕ)) (costs : List Weight) (n : ℕ) where
+  abbrev problem : Instance
+  problem = rooted vertices root arcs costs
+
+  abbrev into : List ℕ → List ℕ
+  into set = entering (ends_of arcs) (all_below (length arcs)) set
+
+  pub arborescences_give : (sets : List (List ℕ)) → IsRight problem (disjoint n sets) → GivesReason problem (disjoint n sets)
+  arborescences_give sets right = (
+    all_one (Holds problem (disjoint n sets)) allowed
+        (right.0, subst (λ m. AreDisjointArborescences vertices m (ends_of arcs) root (length sets) sets) right.0 right.1),
+    (0, omega arith, refl),
+  )
+
+  pub seldom_entered_gives : (k v : ℕ) (set : List ℕ) → IsRight problem (disjoint_none n k v set) → GivesReason problem (disjoint_none n k v set)
+  seldom_entered_gives k v set right =
+      let is : IsSeldomEntered vertices (length arcs) (ends_of arcs) root k set =
+      subst (λ m. IsSeldomEntered vertices m (ends_of arcs) root k set) right.0 right.2 in (
+        all_two (Holds problem (disjoint_none n k v set)) (without_root set) (entered_by set (into set)) is.root_free refl,
+        record { set = set; arcs = into set; says_set = (0, omega arith, refl); says_arcs = (1, omega arith, refl); few = is.few },
+      )
+
+  no_arc : (set : List ℕ) → IsUnentered vertices arcs root set → into set ≡ []
+  no_arc set is = no_members (into set) (λ a m.
+      let parts = and_parts (is_member a (all_below (length arcs))) (enters (ends_of arcs) set a)
+      (sym (is_member-entering (ends_of arcs) a (all_below (length arcs)) set) ∙ m) in
+      both_ways _ (is.none a (ltb-true a (length arcs) (sym (is_member-all_below a (length arcs)) ∙ parts.0))) parts.1)
+
+  pub unreached_gives : (v : ℕ) (set : List ℕ) → IsRight problem (unreached n v set) → GivesReason problem (unreached n v set)
+  unreached_gives v set right =
+      let none = ap length (no_arc set right.2) in (
+        all_two (Holds problem (unreached n v set)) (without_root set) (entered_by set (into set)) right.2.root_free refl,
+        record { set = set; arcs = into set; says_set = (0, omega arith, refl); says_arcs = (1, omega arith, refl); few = omega arith },
+      )
+
+  module _ (cost : Weight) (tree : List ℕ) (first second : List Weight) (valid : IsValid problem)
+      (right : IsRight problem (arbor n cost tree first second)) where
+    abbrev answer : Certificate
+    answer = arbor n cost tree first second
+
+    abbrev shares : List (List Weight)
+    shares = first ∷ second ∷ []
+
+    split_at : (e : ℕ) → e < length arcs → weight_at first e ⊕ weight_at second e ≡ weight_at (map negated costs) e
+    split_at e l =
+        let inside : e < length costs = let long = valid.4 in omega arith in
+        right.2.split e l ∙ sym (get_or-map negated costs e zero_weight zero_weight inside)
+
+    weighs : weight first tree ⊕ weight second tree ≡ negated cost
+    weighs =
+        let set = right.2.spanning.set in
+        sym (weight_sum-plus (weight_at (map negated costs)) (weight_at first) (weight_at second) tree (λ e m. sym (split_at e (below_member set m))))
+        ∙ negated_weight arcs costs valid.4 tree set ∙ ap negated (sym right.1)
+
+    pub least_gives : GivesReason problem (arbor n cost tree first second)
+    least_gives =
+        let laws = rules_are_matroids problem valid in
+        let lp : IsMatroid (length arcs) (is_graphic (length arcs) (ends_of arcs)) = laws.each 0 (omega arith) in
+        let lq : IsMatroid (length arcs) (is_entering_once (length arcs) vertices (ends_of arcs) root) = laws.each 1 (omega arith) in
+        let is = right.2 in
+        let size : length tree ≡ vertices - 1 = let s = is.spanning.size in omega arith in (
+          All-cons (Holds problem answer) allowed (size_facts shares tree) (right.0, (is.spanning, right.1))
+          (size_holds (Holds problem answer) first second tree (two_shares_add (length arcs) (map negated costs) first second split_at)
+          (terms_of_heaviest lp (weight_at first) tree is.first_heaviest) (terms_of_heaviest lq (weight_at second) tree is.second_heaviest)),
+          (
+            (0, omega arith, refl),
+            inr (bound_by_two problem (allowed ∷ size_facts shares tree) (vertices - 1) (negated cost) tree size refl first second
+            (1, omega arith, refl) (2, omega arith, refl) (3, omega arith, refl) (at_most_same _ _ weighs)).bound,
+          ),
+        )

@@ -1,0 +1,5 @@
+use Rattle.mat_facts.proofs.SufficientBounds.{size_is_bounded}
+use Rattle.mat_facts.proofs.laws.facts_bound_a_size.Goals as goal
+
+pub returns : goal.returns
+returns c = λ problem answer facts valid hold. size_is_bounded problem answer facts valid hold
