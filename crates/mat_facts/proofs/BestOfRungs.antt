@@ -1,11 +1,11 @@
 -- Where each rung bounds its size by steps that fall, the heaviest rung is heaviest of all sizes: the steps of the rung before it are not below
 -- 0, since its set would weigh less otherwise; and the last step of the rung behind it is not above 0.
-use Rattle.std.proofs.Common.{◌≡◌, ◌<◌, ◌≤◌, ◌-◌, ◌⊎◌, ℕ, zero, suc, true, List, [], ◌∷◌, length, None, Some, slice_get, inl, inr, refl, sym, ap, ◌∙◌, subst, arith}
-use Rattle.std.proofs.lemmas.Bool.{cases_eq, cases_lt}
+use Rattle.std.proofs.Common.{◌≡◌, ◌<◌, ◌≤◌, ◌-◌, ◌⊎◌, ℕ, suc, List, [], ◌∷◌, length, None, Some, slice_get, inl, inr, refl, sym, ap, ◌∙◌, subst, arith}
+use Rattle.std.proofs.lemmas.Bool.{cases_lt}
 use Rattle.std.proofs.lemmas.Int.{ints}
 use Rattle.std.proofs.lemmas.Option.{slice_get_cases}
 use Rattle.std.specs.List.{All, Contains}
-use Rattle.mat_sets.specs.Weights.{◌⊕◌, ◌≼◌, weight, weight_at, zero_weight}
+use Rattle.mat_sets.specs.Weights.{◌⊕◌, ◌≼◌, weight, zero_weight}
 use Rattle.mat_sets.specs.declared.weight.Weight.{Weight}
 use Rattle.mat_sets.proofs.WeightOrder.{at_most_same, at_most_trans, pairs}
 use Rattle.mat_problem.specs.Instances.{Instance}

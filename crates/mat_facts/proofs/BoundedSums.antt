@@ -1,7 +1,6 @@
 -- A set of whose members at most l have more than the l-th of some terms weighs at most as much as these terms together: as long as there are
 -- members, one has at most the last term; it goes with that term. So no order of the members or of the terms is needed.
-use Rattle.std.proofs.Common.{◌≡◌, ◌<◌, ◌≤◌, ℕ, zero, suc, ◌+◌, Bool, true, false, cond, List, [], ◌∷◌, length, refl, sym, ap, arith}
-use Rattle.std.proofs.lemmas.Bool.{cases_Bool}
+use Rattle.std.proofs.Common.{◌≡◌, ◌<◌, ◌≤◌, ℕ, zero, suc, Bool, true, false, cond, List, [], ◌∷◌, length, refl, ap, arith}
 use Rattle.std.proofs.lemmas.Int.{ints}
 use Rattle.std.specs.List.{filter}
 use Rattle.mat_sets.specs.Weights.{◌⊕◌, ◌≼◌, is_below, weight_sum}
@@ -67,7 +66,7 @@ weighs_at_most share term (suc m) X e h =
     let few = h m (omega arith) in
     let taken = take_low share (term m) X (omega arith) in
     let rest = weighs_at_most share term m taken.rest (let s = taken.size in omega arith)
-        (λ l less. let all = h l (omega arith) in let fewer = taken.fewer (term l) in omega arith) in
+    (λ l less. let all = h l (omega arith) in let fewer = taken.fewer (term l) in omega arith) in
     let low = taken.low in
     let weighs = taken.weighs in
     omega (arith, ints, pairs)

@@ -1,5 +1,5 @@
 -- A set whose members are all in some sets has at most as many members as the sets have of it together.
-use Rattle.std.proofs.Common.{◌≡◌, ◌<◌, ◌≤◌, ◌+◌, ℕ, zero, suc, Bool, true, false, cond, List, [], ◌∷◌, length, inl, inr, refl, subst, arith}
+use Rattle.std.proofs.Common.{◌≡◌, ◌<◌, ◌≤◌, ℕ, zero, suc, Bool, true, false, cond, List, [], ◌∷◌, length, inl, inr, subst, arith}
 use Rattle.std.proofs.lemmas.Bool.{cases_eq, or_right}
 use Rattle.std.specs.List.{filter}
 use Rattle.mat_sets.specs.Sets.{intersection, is_member}
@@ -19,13 +19,13 @@ counts_grow_at : (f g : ℕ → ℕ) (m i : ℕ) → i < m → f i < g i → ((k
 counts_grow_at f g zero i l more h = absurd (omega arith)
 counts_grow_at f g (suc m) i l more h = elim (cases_eq i m) [
   | inl same ↦ (
-    let before = counts_grow f g m (λ k l. h k (omega arith)) in
-    let here : f m < g m = subst (λ k. f k < g k) same more in
-    omega arith)
+      let before = counts_grow f g m (λ k l. h k (omega arith)) in
+      let here : f m < g m = subst (λ k. f k < g k) same more in
+      omega arith)
   | inr other ↦ (
-    let before = counts_grow_at f g m i (omega arith) more (λ k l. h k (omega arith)) in
-    let here = h m (omega arith) in
-    omega arith)
+      let before = counts_grow_at f g m i (omega arith) more (λ k l. h k (omega arith)) in
+      let here = h m (omega arith) in
+      omega arith)
 ]
 
 pub divided : (sides : ℕ → List ℕ) (m : ℕ) (X : List ℕ) → ((e : ℕ) → is_member e X ≡ true → (i : ℕ) × (i < m) × (is_member e (sides i) ≡ true))

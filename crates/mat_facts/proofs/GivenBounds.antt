@@ -1,15 +1,15 @@
 -- Where facts of the given forms stand in a list, they bound sizes: of one rule, and of two.
-use Rattle.std.proofs.Common.{◌≡◌, ◌<◌, ◌≤◌, ◌+◌, ℕ, zero, suc, Bool, true, false, List, [], ◌∷◌, length, get_or, inl, inr, refl, sym, ap, ◌∙◌, subst, arith}
+use Rattle.std.proofs.Common.{◌≡◌, ◌<◌, ◌≤◌, ◌+◌, ℕ, zero, suc, Bool, true, List, [], ◌∷◌, length, get_or, inl, inr, sym, ◌∙◌, subst, arith}
 use Rattle.std.proofs.lemmas.Bool.{cases_Bool, and_from, lt-ltb, not_from_false}
 use Rattle.std.proofs.lemmas.Int.{ints}
 use Rattle.std.specs.List.{Contains}
-use Rattle.mat_sets.specs.Sets.{all_below, intersection, is_member, minus, IsRising, IsSet}
+use Rattle.mat_sets.specs.Sets.{all_below, intersection, is_member, minus, IsSet}
 use Rattle.mat_sets.specs.Weights.{◌⊕◌, ◌≼◌, weight, weight_at}
 use Rattle.mat_sets.specs.declared.weight.Weight.{Weight}
 use Rattle.mat_sets.proofs.Ground.{is_member-all_below}
 use Rattle.mat_sets.proofs.Members.{is_member-minus, IsRising-intersection}
 use Rattle.mat_sets.proofs.Subsets.{intersection-left, intersection-right}
-use Rattle.mat_sets.proofs.WeightOrder.{at_most_same, pairs}
+use Rattle.mat_sets.proofs.WeightOrder.{pairs}
 use Rattle.mat_laws.specs.Matroids.{IsMatroid}
 use Rattle.mat_laws.specs.Ranks.{rank}
 use Rattle.mat_laws.proofs.Independent.{rising}

@@ -1,15 +1,14 @@
 -- Where a set is heaviest of its size, no independent set has more members above any of its terms: one that had would give it a member for a
 -- lighter one.
-use Rattle.std.proofs.Common.{◌≡◌, ◌<◌, ◌≤◌, ◌+◌, ℕ, suc, Bool, true, false, not, ◌&&◌, ◌||◌, eqb, List, length, inl, inr, refl, sym, ap, ◌∙◌, subst, arith}
+use Rattle.std.proofs.Common.{◌≡◌, ◌<◌, ◌≤◌, ℕ, Bool, true, false, not, ◌||◌, eqb, List, length, inl, inr, refl, sym, ◌∙◌, subst, arith}
 use Rattle.std.proofs.lemmas.Bool.{and_parts, and_from, both_ways, cases_eq, cases_lt, eq-eqb, eqb-true, false_from_ne_true, ne_eqb, not_from_false, or_cases, or_left, or_right}
-use Rattle.std.proofs.lemmas.Int.{ints}
 use Rattle.std.specs.List.{filter}
 use Rattle.mat_sets.specs.Sets.{is_member, with_one, without_one, IsRising, IsSubset}
 use Rattle.mat_sets.specs.Weights.{◌≼◌, is_below, weight_at}
 use Rattle.mat_sets.specs.declared.weight.Weight.{Weight}
 use Rattle.mat_sets.proofs.Cardinalities.{length-exchange_one, length-with_one}
 use Rattle.mat_sets.proofs.Filters.{IsRising-filter}
-use Rattle.mat_sets.proofs.Members.{is_member-filter, is_member-with_one, is_member-without_one, set_members, IsRising-with_one, IsRising-without_one}
+use Rattle.mat_sets.proofs.Members.{is_member-filter, is_member-with_one, is_member-without_one, IsRising-with_one, IsRising-without_one}
 use Rattle.mat_sets.proofs.Subsets.{same_size_subset, subset_or}
 use Rattle.mat_sets.proofs.WeightOrder.{at_most_not, at_most_trans, below_gives, not_below_gives}
 use Rattle.mat_laws.specs.Heaviest.{IsHeaviest}
@@ -90,7 +89,7 @@ module _ {n : ℕ} {p : List ℕ → Bool} (laws : IsMatroid n p) (w : ℕ → W
           let found = lacking e K outside has g.passes g.size in
           let gains = lighter e found.0 K outside found.1 g.passes g.size g.inside found.2 in
           let low : is_below t (w found.0) ≡ false = false_from_ne_true _ (λ b.
-              both_ways _ found.2 (g.holds.inside found.0 (is_member-with_one found.0 e (more X) ∙ or_right (eqb found.0 e) _ (to_more X found.0 found.1 b)))) in
+          both_ways _ found.2 (g.holds.inside found.0 (is_member-with_one found.0 e (more X) ∙ or_right (eqb found.0 e) _ (to_more X found.0 found.1 b)))) in
           at_most_not (w e) t (at_most_trans _ _ _ gains (not_below_gives t (w found.0) low)) (below_gives t (w e) high)
 
   -- so no independent set has more members with more than t

@@ -1,12 +1,11 @@
 -- Right answers on graphs give reasons.
-use Rattle.std.proofs.Common.{◌≡◌, ◌<◌, ◌≤◌, ◌-◌, ℕ, suc, Bool, true, false, List, [], ◌∷◌, ◌++◌, length, map, None, Some, inl, inr, refl, sym, ap, ◌∙◌, subst, arith}
+use Rattle.std.proofs.Common.{◌≡◌, ◌<◌, ◌-◌, ℕ, List, [], ◌∷◌, length, map, inr, refl, sym, ap, ◌∙◌, subst, arith}
 use Rattle.std.proofs.lemmas.Bool.{and_parts, both_ways, ltb-true}
 use Rattle.std.proofs.lemmas.List.{get_or-map}
 use Rattle.std.proofs.lemmas.List.Elements.{All-cons}
-use Rattle.std.specs.List.{All, Contains}
 use Rattle.mat_sets.specs.Graphs.{ends_of, entering, enters, IsUnentered}
 use Rattle.mat_sets.specs.Sets.{all_below, is_member}
-use Rattle.mat_sets.specs.Weights.{◌⊕◌, ◌≼◌, negated, weight, weight_at, zero_weight}
+use Rattle.mat_sets.specs.Weights.{◌⊕◌, negated, weight, weight_at, zero_weight}
 use Rattle.mat_sets.specs.declared.weight.Weight.{Weight}
 use Rattle.mat_sets.proofs.Crossings.{is_member-entering}
 use Rattle.mat_sets.proofs.DisjointSets.{no_members}
@@ -16,17 +15,16 @@ use Rattle.mat_sets.proofs.WeightSums.{weight_sum-plus}
 use Rattle.mat_laws.specs.Matroids.{IsMatroid}
 use Rattle.mat_graphic.specs.Forests.{is_graphic}
 use Rattle.mat_packing.specs.Trees.{crossing, AreTrees, IsRightPartition}
-use Rattle.mat_arbor.specs.Arborescences.{IsSplitArborescence}
 use Rattle.mat_arbor.specs.Heads.{is_entering_once}
 use Rattle.mat_branch.specs.Arborescences.{AreDisjointArborescences, IsSeldomEntered}
 use Rattle.mat_problem.specs.Instances.{Instance, graph, rooted}
 use Rattle.mat_problem.specs.Validity.{IsValid}
 use Rattle.mat_cert.specs.Certificates.{Certificate, arbor, disjoint, disjoint_none, trees, trees_none, unreached}
 use Rattle.mat_right.specs.Right.{IsRight}
-use Rattle.mat_facts.specs.Facts.{Fact, allowed, between, entered_by, few_above, groups, shared, without_root}
+use Rattle.mat_facts.specs.Facts.{allowed, between, entered_by, groups, without_root}
 use Rattle.mat_facts.specs.Holding.{Holds}
 use Rattle.mat_facts.specs.Reasons.{size_facts}
-use Rattle.mat_facts.proofs.GivenBounds.{bound_by_two, terms_of}
+use Rattle.mat_facts.proofs.GivenBounds.{bound_by_two}
 use Rattle.mat_facts.proofs.HeaviestTerms.{terms_of_heaviest}
 use Rattle.mat_facts.proofs.ListedFacts.{all_one, all_two}
 use Rattle.mat_facts.proofs.NegatedCosts.{negated_weight}
@@ -48,7 +46,7 @@ partition_gives vertices edges n k v classes right =
     let is : IsRightPartition vertices (length edges) (ends_of edges) k classes =
     subst (λ m. IsRightPartition vertices m (ends_of edges) k classes) right.0 right.2 in (
       all_two (Holds (graph vertices edges) (trees_none n k v classes)) (groups classes) (between classes (crossing (length edges) (ends_of edges) classes))
-      (record { filled = is.filled; below = is.below; once = is.once }) refl,
+          (record { filled = is.filled; below = is.below; once = is.once }) refl,
       record {
         gs = classes;
         edges = crossing (length edges) (ends_of edges) classes;
@@ -120,11 +118,11 @@ module _ (vertices root : ℕ) (arcs : List (ℕ × ℕ)) (costs : List Weight) 
         let is = right.2 in
         let size : length tree ≡ vertices - 1 = let s = is.spanning.size in omega arith in (
           All-cons (Holds problem answer) allowed (size_facts shares tree) (right.0, (is.spanning, right.1))
-          (size_holds (Holds problem answer) first second tree (two_shares_add (length arcs) (map negated costs) first second split_at)
-          (terms_of_heaviest lp (weight_at first) tree is.first_heaviest) (terms_of_heaviest lq (weight_at second) tree is.second_heaviest)),
+              (size_holds (Holds problem answer) first second tree (two_shares_add (length arcs) (map negated costs) first second split_at)
+              (terms_of_heaviest lp (weight_at first) tree is.first_heaviest) (terms_of_heaviest lq (weight_at second) tree is.second_heaviest)),
           (
             (0, omega arith, refl),
             inr (bound_by_two problem (allowed ∷ size_facts shares tree) (vertices - 1) (negated cost) tree size refl first second
-            (1, omega arith, refl) (2, omega arith, refl) (3, omega arith, refl) (at_most_same _ _ weighs)).bound,
+                (1, omega arith, refl) (2, omega arith, refl) (3, omega arith, refl) (at_most_same _ _ weighs)).bound,
           ),
         )

@@ -1,12 +1,12 @@
 -- Right ladders give reasons: of two matroids, of colours, of a table, and of one matroid.
-use Rattle.std.proofs.Common.{◌≡◌, ◌<◌, ◌≤◌, ◌-◌, ℕ, zero, suc, Bool, true, List, [], ◌∷◌, ◌++◌, length, map, get_or, Option, None, Some, slice_get, inl, inr, refl, sym, ap, ◌∙◌, subst, arith}
+use Rattle.std.proofs.Common.{◌≡◌, ◌<◌, ◌≤◌, ℕ, Bool, List, [], ◌∷◌, ◌++◌, length, get_or, Option, None, Some, slice_get, inl, inr, refl, sym, subst, arith}
 use Rattle.std.proofs.lemmas.Int.{ints}
 use Rattle.std.proofs.lemmas.List.Elements.{All-append, All-cons, All-nil, Contains-append_left, Contains-append_right}
-use Rattle.std.proofs.lemmas.Option.{same_Some, slice_get_cases}
+use Rattle.std.proofs.lemmas.Option.{slice_get_cases}
 use Rattle.std.specs.List.{All, Contains}
 use Rattle.std.specs.Prelude.{flat_map, MatchOption}
 use Rattle.mat_sets.specs.Graphs.{ends_of}
-use Rattle.mat_sets.specs.Weights.{◌⊕◌, ◌≼◌, weight, weight_at, zero_weight}
+use Rattle.mat_sets.specs.Weights.{weight_at}
 use Rattle.mat_sets.specs.declared.weight.Weight.{Weight}
 use Rattle.mat_sets.proofs.WeightOrder.{at_most_same, pairs}
 use Rattle.mat_laws.specs.Matroids.{IsMatroid}
@@ -24,7 +24,6 @@ use Rattle.mat_right.specs.Right.{AreRightRungs, IsRight, IsRightLadder, IsRight
 use Rattle.mat_facts.specs.Allowances.{AddUp}
 use Rattle.mat_facts.specs.Facts.{Fact, allowed, falls_apart, few_above, full, shared}
 use Rattle.mat_facts.specs.Holding.{Holds}
-use Rattle.mat_facts.specs.Problems.{size_of}
 use Rattle.mat_facts.specs.Reasons.{colours_facts, ladder_facts, last_facts, reason_of, size_facts}
 use Rattle.mat_facts.specs.Answers.{AreAllowedRungs, rungs_of}
 use Rattle.mat_facts.specs.Sufficing.{ShowsNoLarger, Suffice}

@@ -1,25 +1,24 @@
 -- A right ladder of two rules gives facts that hold and suffice: each rung bounds its size by the terms of its set, and the cut all sizes.
-use Rattle.std.proofs.Common.{◌≡◌, ◌<◌, ◌≤◌, ◌+◌, ℕ, zero, suc, Bool, true, ◌⊎◌, List, [], ◌∷◌, ◌++◌, length, map, Option, None, Some, slice_get, inl, inr, refl, sym, ap, ◌∙◌, subst, arith}
+use Rattle.std.proofs.Common.{◌≡◌, ◌<◌, ℕ, zero, suc, Bool, true, List, [], ◌∷◌, ◌++◌, length, map, None, Some, slice_get, inl, inr, refl, sym, ap, ◌∙◌, subst, arith}
 use Rattle.std.proofs.lemmas.Int.{ints}
 use Rattle.std.proofs.lemmas.List.{length-map}
 use Rattle.std.proofs.lemmas.List.Elements.{All-append, All-cons, Contains-append_left, Contains-append_right}
 use Rattle.std.proofs.lemmas.Option.{same_Some}
 use Rattle.std.specs.List.{All, Contains}
-use Rattle.std.specs.Prelude.{flat_map, option_map}
+use Rattle.std.specs.Prelude.{flat_map}
 use Rattle.mat_sets.specs.Sets.{all_below, minus}
-use Rattle.mat_sets.specs.Weights.{◌⊕◌, ◌≼◌, weight, weight_at, zero_weight}
+use Rattle.mat_sets.specs.Weights.{◌⊕◌, weight, weight_at}
 use Rattle.mat_sets.specs.declared.weight.Weight.{Weight}
 use Rattle.mat_sets.proofs.Ground.{IsSet-all_below, IsSet-minus}
 use Rattle.mat_sets.proofs.WeightOrder.{at_most_same, pairs}
-use Rattle.mat_laws.specs.Ladders.{IsRung}
 use Rattle.mat_laws.specs.Matroids.{IsMatroid}
 use Rattle.mat_laws.specs.Ranks.{rank}
 use Rattle.mat_laws.proofs.BestLadders.{split_weight}
 use Rattle.mat_problem.specs.Instances.{Instance}
-use Rattle.mat_cert.specs.Certificates.{Certificate, last_rung}
+use Rattle.mat_cert.specs.Certificates.{Certificate}
 use Rattle.mat_cert.specs.declared.answer.PlainRung.{PlainRung}
 use Rattle.mat_cert.specs.declared.answer.PricedRung.{PricedRung}
-use Rattle.mat_right.specs.Right.{IsRightLadder, IsRightPricedRung}
+use Rattle.mat_right.specs.Right.{IsRightLadder}
 use Rattle.mat_facts.specs.Allowances.{AddUp, AllowsAtMost, HasFewAbove}
 use Rattle.mat_facts.specs.Answers.{AreAllowedRungs, IsAllowedRung, plain_rung}
 use Rattle.mat_facts.specs.Facts.{Fact, allowed, at_most, few_above, shared}

@@ -1,31 +1,30 @@
 -- Right unions, packings and coverings give reasons: what a rule allows of a cut at most is its rank.
-use Rattle.std.proofs.Common.{◌≡◌, ◌<◌, ◌≤◌, ◌-◌, ◌+◌, ◌*◌, ℕ, zero, suc, Bool, true, false, List, [], ◌∷◌, ◌++◌, length, map, get_or, Option, None, Some, slice_get, inl, inr, refl, sym, ap, ◌∙◌, subst, arith}
+use Rattle.std.proofs.Common.{◌≡◌, ◌<◌, ◌≤◌, ◌-◌, ◌+◌, ◌*◌, ℕ, zero, suc, Bool, true, false, List, [], ◌∷◌, length, map, get_or, Option, None, Some, slice_get, inl, inr, refl, sym, ap, subst, arith}
 use Rattle.std.proofs.lemmas.Bool.{both_ways}
 use Rattle.std.proofs.lemmas.List.{get_or-map}
 use Rattle.std.proofs.lemmas.List.Elements.{All-cons, All-nil}
 use Rattle.std.proofs.lemmas.Option.{same_Some}
 use Rattle.std.specs.List.{All, Contains}
-use Rattle.std.specs.Prelude.{flat_map, MatchOption}
+use Rattle.std.specs.Prelude.{flat_map}
 use Rattle.mat_sets.specs.FallingWeights.{heavy}
-use Rattle.mat_sets.specs.Families.{family_union, indicator, multiplicity, AreDisjoint}
+use Rattle.mat_sets.specs.Families.{family_union, indicator, multiplicity}
 use Rattle.mat_sets.specs.Sets.{all_below, intersection, is_member, minus, IsSet}
 use Rattle.mat_sets.specs.Weights.{weight_at}
 use Rattle.mat_sets.specs.declared.weight.Weight.{Weight}
 use Rattle.mat_sets.proofs.DisjointSets.{no_members}
 use Rattle.mat_sets.proofs.Ground.{IsRising-all_below, IsSet-all_below, IsSet-subset}
-use Rattle.mat_sets.proofs.Members.{only_member, IsRising-intersection}
+use Rattle.mat_sets.proofs.Members.{only_member}
 use Rattle.mat_sets.proofs.Search.{IsSet-those_below}
 use Rattle.mat_sets.proofs.Subsets.{intersection-left, intersection-right}
 use Rattle.mat_laws.specs.Matroids.{IsBase, IsLoop, IsMatroid}
 use Rattle.mat_laws.specs.Ranks.{rank}
-use Rattle.mat_laws.proofs.Independent.{rising}
 use Rattle.mat_laws.proofs.Maximal.{IsBase-maximal, IsMaximal-base}
 use Rattle.mat_laws.proofs.RankLaws.{maximal_in, rank-maximal}
 use Rattle.mat_union.specs.RightUnions.{level_at, IsLevelCut}
-use Rattle.mat_union.specs.Unions.{part_at, ranks_sum, test_at, AreMatroids}
+use Rattle.mat_union.specs.Unions.{part_at, ranks_sum, test_at}
 use Rattle.mat_union.specs.declared.best.Level.{Level}
 use Rattle.mat_union.proofs.Dominated.{weighs}
-use Rattle.mat_packing.specs.Packings.{AreBases, IsCoverCut, IsRightCovering, IsRightPacking}
+use Rattle.mat_packing.specs.Packings.{AreBases, IsRightCovering, IsRightPacking}
 use Rattle.mat_packing.proofs.Copies.{packing_is_most}
 use Rattle.mat_any.specs.Trees.{Tree, is_independent}
 use Rattle.mat_problem.specs.Instances.{Instance, list}
@@ -36,7 +35,7 @@ use Rattle.mat_right.specs.Right.{level_of, IsRight, IsRightUnionAnswer}
 use Rattle.mat_facts.specs.Allowances.{AllowsAtMost}
 use Rattle.mat_facts.specs.Facts.{Fact, allowed, at_most, full, in_parts}
 use Rattle.mat_facts.specs.Holding.{Holds}
-use Rattle.mat_facts.specs.Reasons.{level_facts, level_most_facts, reason_of}
+use Rattle.mat_facts.specs.Reasons.{level_facts, level_most_facts}
 use Rattle.mat_facts.specs.Sufficing.{BoundsLevel}
 use Rattle.mat_facts.specs.Terms.{count_of_first}
 use Rattle.mat_facts.proofs.AllowedCounts.{count_front}
@@ -161,7 +160,7 @@ module _ (w : List Weight) (matroids : List Tree) (n : ℕ) (printed : Weight) (
   pub union_gives : GivesReason (list w matroids) (union_of n printed parts levels)
   union_gives = (
     All-cons (Holds problem answer) allowed (flat_map each_level levels) (right.0, (is.right.are, is.priced))
-    (all_in_all each_level (Holds problem answer) levels level_holds),
+        (all_in_all each_level (Holds problem answer) levels level_holds),
     record {
       says_allowed = (0, omega arith, refl);
       levels = map level_of levels;
@@ -188,7 +187,7 @@ module _ (w : List Weight) (matroid : Tree) (n : ℕ) (valid : IsValid (list w (
   no_rank_gives right =
       let none : rank p (all_below (length w)) ≡ 0 = subst (λ m. rank p (all_below m) ≡ 0) right.0 right.1 in (
         all_one (Holds single (pack_any n)) (at_most 0 (all_below (length w)) 0)
-        (subst (AllowsAtMost (length w) p (all_below (length w))) none (allows_rank lp (all_below (length w)) (IsSet-all_below (length w)))),
+            (subst (AllowsAtMost (length w) p (all_below (length w))) none (allows_rank lp (all_below (length w)) (IsSet-all_below (length w)))),
         (0, omega arith, refl),
       )
 
@@ -218,7 +217,7 @@ module _ (w : List Weight) (matroid : Tree) (n : ℕ) (valid : IsValid (list w (
       let base = is.are.each 0 (some_base bases cut is) in
       let size = rank-maximal lp (all_below (length w)) (part_at bases 0) (IsRising-all_below (length w)) (IsMaximal-base lp (part_at bases 0) base) in (
         all_three (Holds single (pack n bases cut)) allowed (at_most 0 cut (rank p cut)) (full (part_at bases 0))
-        (right.0, is.are) (allows_rank lp cut is.set) base,
+            (right.0, is.are) (allows_rank lp cut is.set) base,
         record {
           says_allowed = (0, omega arith, refl);
           cut = cut;
@@ -249,7 +248,7 @@ module _ (w : List Weight) (matroid : Tree) (n : ℕ) (valid : IsValid (list w (
       let loop : IsLoop (length w) p loop_at = subst (λ m. IsLoop m p loop_at) right.0 right.1 in
       let set : IsSet (length w) (loop_at ∷ []) = record { rising = record { rises = (omega arith, tt) }; below = (loop.0, tt) } in (
         all_two (Holds single (cover_never n loop_at)) allowed (at_most 0 (loop_at ∷ []) 0) (right.0, λ k rung at. absurd (nowhere at))
-        (loop_allows_none loop_at loop set),
+            (loop_allows_none loop_at loop set),
         ((0, omega arith, refl), loop_at, loop.0, (1, omega arith, refl)),
       )
     where

@@ -1,13 +1,12 @@
 -- Shares and terms bound what a set weighs that each of some rules allows. The terms are those of one size: a smaller set takes the first of
 -- them, and a larger one takes the last once more for each further element.
-use Rattle.std.proofs.Common.{◌≡◌, ◌<◌, ◌≤◌, ◌-◌, ◌+◌, ℕ, zero, suc, Bool, true, false, cond, ltb, List, length, refl, sym, ap, ◌∙◌, subst, arith}
+use Rattle.std.proofs.Common.{◌≡◌, ◌<◌, ◌≤◌, ◌-◌, ℕ, Bool, true, false, cond, ltb, List, length, refl, sym, ap, ◌∙◌, subst, arith}
 use Rattle.std.proofs.lemmas.Bool.{lt-ltb, ltb-false, ltb-true, false_from_ne_true}
-use Rattle.std.proofs.lemmas.Int.{ints}
 use Rattle.mat_sets.specs.Sets.{IsSet}
 use Rattle.mat_sets.specs.Weights.{◌≼◌, weight, weight_at, weight_sum, zero_weight}
 use Rattle.mat_sets.specs.declared.weight.Weight.{Weight}
 use Rattle.mat_sets.proofs.Ground.{below_member}
-use Rattle.mat_sets.proofs.WeightOrder.{at_most_same, at_most_trans, pairs}
+use Rattle.mat_sets.proofs.WeightOrder.{at_most_same, at_most_trans}
 use Rattle.mat_sets.proofs.WeightSums.{weight_sum-same}
 use Rattle.mat_facts.specs.Terms.{count_above, list_at, step_at, sum_of_first}
 use Rattle.mat_facts.proofs.BoundedSums.{weighs_at_most}
@@ -45,7 +44,7 @@ last_inside j l size some e = by (ltb l j) refl
 module _ (n rules : ℕ) (rule : ℕ → List ℕ → Bool) (w : List Weight) (shares terms : List (List Weight))
     (add_up : (e : ℕ) → e < n → sum_of_first (λ i. weight_at (list_at shares i) e) rules ≡ weight_at w e)
     (few : (i : ℕ) → i < rules → (X : List ℕ) → rule i X ≡ true → (l : ℕ) → l < length (list_at terms i)
-        → count_above (weight_at (list_at shares i)) (weight_at (list_at terms i) l) X ≤ l) where
+    → count_above (weight_at (list_at shares i)) (weight_at (list_at terms i) l) X ≤ l) where
   -- the terms that are taken may be any of no higher number
   pub by_terms : (pick : ℕ → ℕ) (m : ℕ) (X : List ℕ) → IsSet n X → ((i : ℕ) → i < rules → rule i X ≡ true) → length X ≡ m
       → ((l : ℕ) → l < m → pick l ≤ l) → ((i l : ℕ) → i < rules → l < m → pick l < length (list_at terms i))

@@ -1,12 +1,11 @@
 -- What follows where facts hold that bound what sets weigh that all rules allow, and how many members they have.
-use Rattle.std.proofs.Common.{◌≡◌, ◌<◌, ◌≤◌, ◌-◌, ℕ, suc, true, ◌⊎◌, List, [], ◌∷◌, length, get_or, inl, inr, ⊎_elim, arith}
+use Rattle.std.proofs.Common.{◌≡◌, ◌<◌, ◌≤◌, ◌-◌, ℕ, suc, ◌⊎◌, List, [], ◌∷◌, length, get_or, inl, inr, ⊎_elim, arith}
 use Rattle.std.proofs.lemmas.Bool.{cases_eq, cases_lt}
 use Rattle.std.proofs.lemmas.List.Elements.{All-contains}
 use Rattle.std.specs.List.{All, Contains}
 use Rattle.mat_sets.specs.Weights.{◌≼◌, weight}
 use Rattle.mat_sets.specs.declared.weight.Weight.{Weight}
 use Rattle.mat_sets.proofs.Ground.{IsSet-length}
-use Rattle.mat_laws.specs.Matroids.{IsMatroid}
 use Rattle.mat_laws.proofs.Maximal.{base_largest}
 use Rattle.mat_problem.specs.Instances.{Instance}
 use Rattle.mat_problem.specs.Validity.{IsValid}
@@ -14,7 +13,7 @@ use Rattle.mat_cert.specs.Certificates.{Certificate}
 use Rattle.mat_facts.specs.Facts.{Fact, at_most, shared, few_above, full}
 use Rattle.mat_facts.specs.Holding.{Holds}
 use Rattle.mat_facts.specs.Problems.{AllAllow, rule_at, rule_count, rules_of, size_of, weights_of}
-use Rattle.mat_facts.specs.Sufficing.{BoundsEachSize, BoundsLarger, BoundsSize, BoundsSmaller, DividesElements, HasFullSet, IsNothing, ShowsNoLarger}
+use Rattle.mat_facts.specs.Sufficing.{BoundsEachSize, BoundsLarger, BoundsSize, BoundsSmaller, IsNothing, ShowsNoLarger}
 use Rattle.mat_facts.specs.Terms.{list_at}
 use Rattle.mat_facts.proofs.AllowedCounts.{divided_few}
 use Rattle.mat_facts.proofs.RulesOfProblems.{allowed_set, rules_are_matroids, some_rule}
@@ -74,10 +73,10 @@ module _ (problem : Instance) (answer : Certificate) (facts : List Fact) (valid 
     | inl same ↦ size_is_bounded k most b.same X all same
     | inr other ↦ elim (cases_lt (length X) k) [
       | inl less ↦ ⊎_elim
-        (λ (none : IsNothing (k - 1) most). nothing_is_bounded (k - 1) most none X (omega arith))
-        (λ (s : BoundsSmaller problem facts (k - 1) most). smaller_is_bounded (k - 1) most s X all (omega arith)) b.smaller
+          (λ (none : IsNothing (k - 1) most). nothing_is_bounded (k - 1) most none X (omega arith))
+          (λ (s : BoundsSmaller problem facts (k - 1) most). smaller_is_bounded (k - 1) most s X all (omega arith)) b.smaller
       | inr more ↦ ⊎_elim
-        (λ (s : ShowsNoLarger problem facts (suc k)). let few = none_is_larger (suc k) s X all in absurd (omega arith))
-        (λ (s : BoundsLarger problem facts (suc k) most). larger_is_bounded (suc k) most s X all (omega arith)) b.larger
+          (λ (s : ShowsNoLarger problem facts (suc k)). let few = none_is_larger (suc k) s X all in absurd (omega arith))
+          (λ (s : BoundsLarger problem facts (suc k) most). larger_is_bounded (suc k) most s X all (omega arith)) b.larger
     ]
   ]

@@ -1,5 +1,5 @@
 -- Facts that hold and suffice show that an answer is best: form by form.
-use Rattle.std.proofs.Common.{List, [], ◌∷◌, length, sym, subst}
+use Rattle.std.proofs.Common.{List, [], ◌∷◌, sym, subst}
 use Rattle.std.specs.List.{All}
 use Rattle.mat_any.specs.Trees.{is_independent}
 use Rattle.mat_problem.specs.Instances.{Instance, pair, list, graph, rooted, coloured, table}

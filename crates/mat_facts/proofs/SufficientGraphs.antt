@@ -1,18 +1,16 @@
 -- Facts suffice for answers on graphs: that there are no such trees or arborescences, and that an arborescence costs least.
-use Rattle.std.proofs.Common.{◌≡◌, ◌<◌, ◌≤◌, ◌-◌, ℕ, suc, Bool, true, false, ◌⊎◌, List, [], ◌∷◌, length, map, get_or, inl, inr, refl, sym, ap, ◌∙◌, subst, arith}
-use Rattle.std.proofs.lemmas.Bool.{cases_Bool, both_ways, and_from, false_from_ne_true, lt-ltb}
+use Rattle.std.proofs.Common.{◌≡◌, ◌<◌, ◌-◌, ℕ, true, false, ◌⊎◌, List, length, get_or, ap, ◌∙◌, arith}
+use Rattle.std.proofs.lemmas.Bool.{and_from, false_from_ne_true, lt-ltb}
 use Rattle.std.proofs.lemmas.Int.{ints}
-use Rattle.std.proofs.lemmas.List.{get_or-map}
 use Rattle.std.specs.List.{All, Contains}
 use Rattle.mat_sets.specs.Graphs.{ends_of, entering, enters, IsSpanningArborescence}
-use Rattle.mat_sets.specs.Sets.{all_below, is_member, IsSet}
-use Rattle.mat_sets.specs.Weights.{◌≼◌, negated, weight, weight_at, weight_sum, zero_weight}
+use Rattle.mat_sets.specs.Sets.{all_below, is_member}
+use Rattle.mat_sets.specs.Weights.{negated}
 use Rattle.mat_sets.specs.declared.weight.Weight.{Weight}
 use Rattle.mat_sets.proofs.Crossings.{is_member-entering, unentered_has_none}
-use Rattle.mat_sets.proofs.Ground.{below_member, is_member-all_below}
+use Rattle.mat_sets.proofs.Ground.{is_member-all_below}
 use Rattle.mat_sets.proofs.Members.{some_from_member}
 use Rattle.mat_sets.proofs.WeightOrder.{pairs}
-use Rattle.mat_sets.proofs.WeightSums.{weight_sum-same}
 use Rattle.mat_graphic.specs.Forests.{is_graphic}
 use Rattle.mat_packing.specs.Trees.{AreTrees}
 use Rattle.mat_packing.proofs.Partitions.{few_trees}
@@ -29,7 +27,6 @@ use Rattle.mat_check.specs.Optimal.{IsLeastArborescence}
 use Rattle.mat_check.proofs.ValidGraphs.{coloured_is_graph, graph_is_graph, rooted_is_graph, root_is_below}
 use Rattle.mat_facts.specs.Facts.{Fact, allowed, groups, between, falls_apart, without_root, entered_by}
 use Rattle.mat_facts.specs.Holding.{AreGroups, Holds}
-use Rattle.mat_facts.specs.Problems.{AllAllow}
 use Rattle.mat_facts.specs.Sufficing.{BoundsSize, IsNothing, ShowsNoArborescences, ShowsNoRainbowTree, ShowsNoTrees}
 use Rattle.mat_facts.proofs.NegatedCosts.{negated_weight}
 use Rattle.mat_facts.proofs.RulesOfProblems.{both_allow}

@@ -1,9 +1,8 @@
 -- Facts suffice for unions, packings and coverings: what the rules allow bounds the ranks of their cuts.
-use Rattle.std.proofs.Common.{◌≡◌, ◌<◌, ◌≤◌, ◌-◌, ◌+◌, ◌*◌, ℕ, suc, Bool, true, false, ◌⊎◌, List, [], ◌∷◌, length, map, get_or, Option, inl, inr, refl, sym, ap, ◌∙◌, subst, arith}
-use Rattle.std.proofs.lemmas.Bool.{cases_lt, false_from_ne_true}
+use Rattle.std.proofs.Common.{◌≡◌, ◌<◌, ◌≤◌, ◌-◌, ◌+◌, ◌*◌, ℕ, Bool, true, ◌⊎◌, List, [], ◌∷◌, length, map, get_or, inl, inr, refl, ap, ◌∙◌, arith}
+use Rattle.std.proofs.lemmas.Bool.{false_from_ne_true}
 use Rattle.std.specs.List.{All, Contains}
-use Rattle.mat_sets.specs.Families.{family_union}
-use Rattle.mat_sets.specs.Sets.{all_below, intersection, is_member, minus, IsRising, IsSubset}
+use Rattle.mat_sets.specs.Sets.{all_below, intersection, is_member, minus}
 use Rattle.mat_sets.specs.declared.weight.Weight.{Weight}
 use Rattle.mat_sets.proofs.Equalities.{intersection-subset}
 use Rattle.mat_sets.proofs.Filters.{filter_none}
@@ -15,14 +14,13 @@ use Rattle.mat_laws.proofs.Maximal.{IsMaximal-base}
 use Rattle.mat_laws.proofs.RankLaws.{rank-maximal}
 use Rattle.mat_union.specs.RightUnions.{IsBestUnion, level_at}
 use Rattle.mat_union.specs.Unions.{test_at, AreParts}
-use Rattle.mat_union.specs.declared.best.Level.{Level}
 use Rattle.mat_union.proofs.LevelsShow.{right_is_best}
 use Rattle.mat_packing.specs.Packings.{AreBases, IsCover}
 use Rattle.mat_packing.proofs.Copies.{covering_is_least, loop_has_no_cover, packing_is_most, rank_none}
 use Rattle.mat_any.specs.Trees.{Tree, is_independent}
 use Rattle.mat_problem.specs.Instances.{list}
 use Rattle.mat_problem.specs.Validity.{IsValid}
-use Rattle.mat_cert.specs.Certificates.{Certificate, union_of, pack_any, pack, cover_never, cover}
+use Rattle.mat_cert.specs.Certificates.{Certificate, union_of}
 use Rattle.mat_cert.specs.declared.answer.LevelLine.{LevelLine}
 use Rattle.mat_check.specs.Optimal.{AreFewestSets, AreMostBases}
 use Rattle.mat_facts.specs.Allowances.{AllowsAtMost}
@@ -53,16 +51,18 @@ union_shown w matroids n printed parts levels facts valid hold s =
     let tests = map is_independent matroids in
     let laws = rules_are_matroids problem valid in
     let tell = said problem answer facts valid hold in
-    let are : AreParts tests parts = (tell allowed s.says_allowed).1.0 in
-    (are, right_is_best laws w refl parts s.levels (record {
-      are = are;
-      weights = s.falling;
-      cuts = λ j l.
-          let b = s.each j l in
-          let cut = (level_at s.levels j).cut in
-          level_cut (length w) tests w parts (level_at s.levels j).at cut (λ i. get_or b.most i 0) b.held laws are (some_rule problem valid) b.inside
-          (λ i inside. nothing_or cut (test_at tests i) (get_or b.most i 0) (λ some. tell (at_most i cut (get_or b.most i 0)) (b.says_most some i inside))) (tell (in_parts (level_at s.levels j).at b.held) b.says_held) b.enough;
-    }))
+    let are : AreParts tests parts = (tell allowed s.says_allowed).1.0 in (
+      are,
+      right_is_best laws w refl parts s.levels (record {
+        are = are;
+        weights = s.falling;
+        cuts = λ j l.
+            let b = s.each j l in
+            let cut = (level_at s.levels j).cut in
+            level_cut (length w) tests w parts (level_at s.levels j).at cut (λ i. get_or b.most i 0) b.held laws are (some_rule problem valid) b.inside
+            (λ i inside. nothing_or cut (test_at tests i) (get_or b.most i 0) (λ some. tell (at_most i cut (get_or b.most i 0)) (b.says_most some i inside))) (tell (in_parts (level_at s.levels j).at b.held) b.says_held) b.enough;
+      }),
+    )
 
 -- ---- of one matroid
 

@@ -1,15 +1,14 @@
 -- What an answer has, and that it is of the kind that was asked for, be there a better one or not.
-use Rattle.std.specs.Prelude.{◌≡◌, ℕ, Bool, List, [], ◌∷◌, length, map, Some, slice_get}
+use Rattle.std.specs.Prelude.{◌≡◌, ℕ, List, [], ◌∷◌, length, map, Some, slice_get}
 use Rattle.mat_sets.specs.Families.{family_union}
 use Rattle.mat_sets.specs.Graphs.{ends_of, IsSpanningArborescence}
 use Rattle.mat_sets.specs.Weights.{weight}
-use Rattle.mat_sets.specs.declared.weight.Weight.{Weight}
 use Rattle.mat_union.specs.Unions.{AreParts}
 use Rattle.mat_packing.specs.Packings.{AreBases, IsCover}
 use Rattle.mat_packing.specs.Trees.{AreTrees}
 use Rattle.mat_branch.specs.Arborescences.{AreDisjointArborescences}
 use Rattle.mat_any.specs.Trees.{is_independent}
-use Rattle.mat_problem.specs.Instances.{Instance, pair, list, graph, rooted, coloured, table}
+use Rattle.mat_problem.specs.Instances.{Instance, list, graph, rooted}
 use Rattle.mat_cert.specs.Certificates.{Certificate, intersect, best, union_of, pack_any, pack, cover_never, cover, trees, trees_none}
 use Rattle.mat_cert.specs.Certificates.{arbor, unreached, disjoint, disjoint_none, rainbow, assign}
 use Rattle.mat_cert.specs.declared.answer.PlainRung.{PlainRung}

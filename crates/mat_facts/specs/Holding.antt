@@ -1,11 +1,9 @@
 -- What each fact says, over the problem and the answer alone.
-use Rattle.std.specs.Prelude.{◌≡◌, ℕ, ◌<◌, ◌≤◌, Bool, true, List, length, slice_index}
+use Rattle.std.specs.Prelude.{◌≡◌, ℕ, ◌<◌, true, List, length, slice_index}
 use Rattle.mat_sets.specs.FallingWeights.{heavy}
 use Rattle.mat_sets.specs.Families.{family_union, multiplicity}
 use Rattle.mat_sets.specs.Graphs.{ends_of, entering, IsRootFree}
 use Rattle.mat_sets.specs.Sets.{all_below, intersection, is_member, IsSet}
-use Rattle.mat_sets.specs.Weights.{weight_at}
-use Rattle.mat_sets.specs.declared.weight.Weight.{Weight}
 use Rattle.mat_laws.specs.Matroids.{IsBase}
 use Rattle.mat_graphic.specs.Forests.{number_of_components}
 use Rattle.mat_packing.specs.Trees.{crossing}

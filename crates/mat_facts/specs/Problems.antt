@@ -1,6 +1,6 @@
 -- What a problem has, whatever its form: its rules, each as a matroid by its test of independence, its elements, and their weights. Elements
 -- are the edges, the arcs or the cells of a problem that has these; costs count negated.
-use Rattle.std.specs.Prelude.{◌≡◌, ℕ, ◌<◌, Bool, true, false, List, [], ◌∷◌, length, map, slice_index}
+use Rattle.std.specs.Prelude.{◌≡◌, ℕ, ◌<◌, Bool, true, List, [], ◌∷◌, length, map, slice_index}
 use Rattle.mat_sets.specs.Graphs.{ends_of}
 use Rattle.mat_sets.specs.Weights.{negated}
 use Rattle.mat_sets.specs.declared.weight.Weight.{Weight}

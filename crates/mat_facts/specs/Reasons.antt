@@ -11,7 +11,7 @@ use Rattle.mat_laws.specs.Ranks.{rank}
 use Rattle.mat_graphic.specs.Forests.{is_graphic, number_of_components}
 use Rattle.mat_union.specs.Unions.{part_at}
 use Rattle.mat_packing.specs.Trees.{crossing}
-use Rattle.mat_any.specs.Trees.{Tree, is_independent}
+use Rattle.mat_any.specs.Trees.{is_independent}
 use Rattle.mat_fronts.specs.Assignments.{column_at, row_at}
 use Rattle.mat_fronts.specs.Once.{is_once}
 use Rattle.mat_fronts.specs.Rainbow.{edges_without}

@@ -1,9 +1,9 @@
 -- Which lists of facts suffice. Each form says which facts stand in the list, in any order and beside any others, and how their numbers add up;
 -- the laws in `laws` say what follows where the facts hold.
-use Rattle.std.specs.Prelude.{◌≡◌, ℕ, suc, ◌+◌, ◌-◌, ◌*◌, ◌<◌, ◌≤◌, ◌⊎◌, true, Bool, List, [], ◌∷◌, length, map, Some, slice_get, slice_index, Contains}
+use Rattle.std.specs.Prelude.{◌≡◌, ℕ, suc, ◌+◌, ◌-◌, ◌*◌, ◌<◌, ◌≤◌, ◌⊎◌, true, List, [], ◌∷◌, length, Some, slice_get, slice_index, Contains}
 use Rattle.mat_sets.specs.FallingWeights.{heavy}
 use Rattle.mat_sets.specs.Sets.{all_below, is_member, minus, IsSubset}
-use Rattle.mat_sets.specs.Weights.{◌≼◌, negated, weight, zero_weight}
+use Rattle.mat_sets.specs.Weights.{◌≼◌, negated, zero_weight}
 use Rattle.mat_sets.specs.declared.weight.Weight.{Weight}
 use Rattle.mat_union.specs.RightUnions.{AreFalling, level_at}
 use Rattle.mat_union.specs.declared.best.Level.{Level}
