@@ -1,6 +1,6 @@
 -- Where each rung bounds its size by steps that fall, the heaviest rung is heaviest of all sizes: the steps of the rung before it are not below
 -- 0, since its set would weigh less otherwise; and the last step of the rung behind it is not above 0.
-use Rattle.std.proofs.Common.{◌≡◌, ◌<◌, ◌≤◌, ◌-◌, ◌⊎◌, ℕ, suc, List, [], ◌∷◌, length, None, Some, slice_get, inl, inr, refl, sym, ap, ◌∙◌, subst, arith}
+use Rattle.std.proofs.Common.{◌≡◌, true, Bool, ◌<◌, ◌≤◌, ◌-◌, ◌⊎◌, ℕ, suc, List, [], ◌∷◌, length, None, Some, slice_get, inl, inr, refl, sym, ap, ◌∙◌, subst, arith}
 use Rattle.std.proofs.lemmas.Bool.{cases_lt}
 use Rattle.std.proofs.lemmas.Int.{ints}
 use Rattle.std.proofs.lemmas.Option.{slice_get_cases}
@@ -16,6 +16,7 @@ use Rattle.mat_facts.specs.Answers.{AreAllowedRungs}
 use Rattle.mat_facts.specs.Facts.{Fact, allowed, few_above, shared}
 use Rattle.mat_facts.specs.Holding.{Holds}
 use Rattle.mat_facts.specs.Problems.{AllAllow, rule_at, rule_count, size_of, weights_of}
+use Rattle.mat_facts.specs.Reasons.{each_size}
 use Rattle.mat_facts.specs.Sufficing.{BoundsEachSize, BoundsLarger, BoundsSize, BoundsSmaller, IsNothing, ShowsEachRung, ShowsNoLarger}
 use Rattle.mat_facts.specs.Terms.{list_at, step_at, sum_of_first}
 use Rattle.mat_facts.proofs.GivenBounds.{FallingBound}
@@ -24,17 +25,17 @@ use Rattle.mat_facts.proofs.SharedBounds.{before_last, by_terms, last_from, last
 use Rattle.mat_facts.proofs.SufficientBounds.{said}
 use Rattle.mat_facts.proofs.TermSums.{sums_agree}
 
--- each rung bounds its size by steps that fall, and none is larger
-pub record ShowsFallingRungs (problem : Instance) (rungs : List PlainRung) (facts : List Fact) : Type 0 where
+-- each rung whose size is told bounds it by steps that fall, and none is larger
+pub record ShowsFallingRungs (told : ℕ → Bool) (problem : Instance) (rungs : List PlainRung) (facts : List Fact) : Type 0 where
   pub says_allowed : Contains facts allowed
-  pub each : (k : ℕ) (rung : PlainRung) → slice_get rungs k ≡ Some rung → FallingBound problem facts k rung.weight
+  pub each : (k : ℕ) (rung : PlainRung) → slice_get rungs k ≡ Some rung → told k ≡ true → FallingBound problem facts k rung.weight
   pub larger : ShowsNoLarger problem facts (length rungs)
 
-pub rungs_shown : (problem : Instance) (rungs : List PlainRung) (facts : List Fact) → ShowsFallingRungs problem rungs facts
+pub rungs_shown : (problem : Instance) (rungs : List PlainRung) (facts : List Fact) → ShowsFallingRungs each_size problem rungs facts
     → ShowsEachRung problem rungs facts
 rungs_shown problem rungs facts s = record {
   says_allowed = s.says_allowed;
-  each = λ k rung at. inr (s.each k rung at).bound;
+  each = λ k rung at. inr (s.each k rung at refl).bound;
   larger = s.larger;
 }
 
@@ -109,8 +110,9 @@ module _ (problem : Instance) (answer : Certificate) (facts : List Fact) (valid 
           step_down v (sum_of_first step j) (step j) (at_most_trans _ _ _ heavy own) b.bound.total
 
   -- the heaviest of the rungs
-  module _ (rungs : List PlainRung) (are : AreAllowedRungs problem rungs) (s : ShowsFallingRungs problem rungs facts)
+  module _ (told : ℕ → Bool) (rungs : List PlainRung) (are : AreAllowedRungs problem rungs) (s : ShowsFallingRungs told problem rungs facts)
       (k : ℕ) (rung : PlainRung) (at : slice_get rungs k ≡ Some rung)
+      (here : told k ≡ true) (before : told (k - 1) ≡ true) (behind : told (suc k) ≡ true)
       (heaviest : (j : ℕ) (other : PlainRung) → slice_get rungs j ≡ Some other → other.weight ≼ rung.weight) where
     weighs : weight (weights_of problem) rung.set ≡ rung.weight
     weighs = sym (are k rung at).priced
@@ -145,7 +147,7 @@ module _ (problem : Instance) (answer : Certificate) (facts : List Fact) (valid 
         | inl found ↦
             let other = found.0 in
             let le = heaviest (k - 1) other found.2 in
-            inr (smaller_from (k - 1) other.weight rung.weight (s.each (k - 1) other found.2) (omega arith) le rung.set (are k rung at).allow
+            inr (smaller_from (k - 1) other.weight rung.weight (s.each (k - 1) other found.2 before) (omega arith) le rung.set (are k rung at).allow
             (let size = (are k rung at).size in omega arith) (subst (λ v. other.weight ≼ v) (sym weighs) le))
         | inr past ↦ absurd (omega (arith, past.0, inside))
       ]
@@ -156,10 +158,10 @@ module _ (problem : Instance) (answer : Certificate) (facts : List Fact) (valid 
       | inl found ↦
           let other = found.0 in
           let le = heaviest (suc k) other found.2 in
-          inr (larger_from k other.weight rung.weight (s.each (suc k) other found.2) le rung.set (are k rung at).allow
+          inr (larger_from k other.weight rung.weight (s.each (suc k) other found.2 behind) le rung.set (are k rung at).allow
           (are k rung at).size (subst (λ v. other.weight ≼ v) (sym weighs) le))
       | inr past ↦ (let last : length rungs ≡ suc k = omega (arith, past.0, inside) in inl (subst (ShowsNoLarger problem facts) last s.larger))
     ]
 
     pub heaviest_shown : BoundsEachSize problem facts k rung.weight
-    heaviest_shown = record { same = inr (s.each k rung at).bound; smaller = smaller; larger = larger }
+    heaviest_shown = record { same = inr (s.each k rung at here).bound; smaller = smaller; larger = larger }

@@ -1,9 +1,11 @@
 -- What stands in lists that are put together, and what holds of all that stands there.
-use Rattle.std.proofs.Common.{◌≡◌, ℕ, zero, suc, List, [], ◌∷◌, Some, slice_get, refl, sym, subst, arith}
+use Rattle.std.proofs.Common.{◌≡◌, ◌+◌, ℕ, zero, suc, Bool, true, false, cond, List, [], ◌∷◌, ◌++◌, length, None, Some, slice_get, refl, sym, subst, arith}
 use Rattle.std.proofs.lemmas.List.Elements.{All-append, All-cons, All-nil, Contains-append_left, Contains-append_right}
 use Rattle.std.proofs.lemmas.Option.{same_Some}
 use Rattle.std.specs.List.{All, Contains}
 use Rattle.std.specs.Prelude.{flat_map}
+use Rattle.mat_facts.specs.Facts.{Fact}
+use Rattle.mat_facts.specs.Reasons.{sizes_facts}
 
 module _ {X : Type 0} where
   pub stands_first : (x : X) (xs : List X) → Contains (x ∷ xs) x
@@ -36,3 +38,31 @@ module _ {X : Type 0} (P : X → Type 0) where
 
   pub all_three : (x y z : X) → P x → P y → P z → All P (x ∷ y ∷ z ∷ [])
   all_three x y z a b c = All-cons P x (y ∷ z ∷ []) a (all_two y z b c)
+
+-- ---- the sizes that are told
+
+module _ {R : Type 0} (told : ℕ → Bool) (f : R → List Fact) where
+  -- the facts of a size that is told stand among all
+  pub stands_in_told : (o : ℕ) (rs : List R) (k : ℕ) (r : R) (fact : Fact) → slice_get rs k ≡ Some r → told (o + k) ≡ true → Contains (f r) fact
+      → Contains (sizes_facts told f o rs) fact
+  stands_in_told o [] k r fact at is h = absurd (none at)
+    where
+      none : None ≡ Some r → ⊥
+      none e = cc
+  stands_in_told o (s ∷ rs) zero r fact at is h =
+      let here : told o ≡ true = (let same : o + 0 ≡ o = omega arith in subst (λ k. told k ≡ true) same is) in
+      rw here (Contains-append_left (f s) (sizes_facts told f (suc o) rs) fact (subst (λ q. Contains (f q) fact) (sym (same_Some _ _ at)) h))
+  stands_in_told o (s ∷ rs) (suc k) r fact at is h =
+      let later : told (suc o + k) ≡ true = (let same : o + suc k ≡ suc o + k = omega arith in subst (λ k. told k ≡ true) same is) in
+      Contains-append_right (cond (told o) (f s) []) (sizes_facts told f (suc o) rs) fact (stands_in_told (suc o) rs k r fact at later h)
+
+  -- what holds of the facts of each size holds of all that are told
+  pub all_told : (H : Fact → Type 0) (o : ℕ) (rs : List R) → ((k : ℕ) (r : R) → slice_get rs k ≡ Some r → All H (f r)) → All H (sizes_facts told f o rs)
+  all_told H o [] h = All-nil H
+  all_told H o (r ∷ rs) h =
+      All-append H (cond (told o) (f r) []) (sizes_facts told f (suc o) rs) (by (told o) (h 0 r refl))
+      (all_told H (suc o) rs (λ k s at. h (suc k) s at))
+    where
+      by : (b : Bool) → All H (f r) → All H (cond b (f r) [])
+      by true a = a
+      by false a = All-nil H

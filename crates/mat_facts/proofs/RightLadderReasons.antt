@@ -1,10 +1,10 @@
 -- Right ladders give reasons: of two matroids, of colours, of a table, and of one matroid.
-use Rattle.std.proofs.Common.{◌≡◌, ◌<◌, ◌≤◌, ℕ, Bool, List, [], ◌∷◌, ◌++◌, length, get_or, Option, None, Some, slice_get, inl, inr, refl, sym, subst, arith}
+use Rattle.std.proofs.Common.{◌≡◌, ◌+◌, ◌<◌, ◌≤◌, ℕ, Bool, true, List, [], ◌∷◌, ◌++◌, length, get_or, Option, None, Some, slice_get, inl, inr, refl, sym, subst, arith}
 use Rattle.std.proofs.lemmas.Int.{ints}
 use Rattle.std.proofs.lemmas.List.Elements.{All-append, All-cons, All-nil, Contains-append_left, Contains-append_right}
 use Rattle.std.proofs.lemmas.Option.{slice_get_cases}
 use Rattle.std.specs.List.{All, Contains}
-use Rattle.std.specs.Prelude.{flat_map, MatchOption}
+use Rattle.std.specs.Prelude.{MatchOption}
 use Rattle.mat_sets.specs.Graphs.{ends_of}
 use Rattle.mat_sets.specs.Weights.{weight_at}
 use Rattle.mat_sets.specs.declared.weight.Weight.{Weight}
@@ -24,29 +24,30 @@ use Rattle.mat_right.specs.Right.{AreRightRungs, IsRight, IsRightLadder, IsRight
 use Rattle.mat_facts.specs.Allowances.{AddUp}
 use Rattle.mat_facts.specs.Facts.{Fact, allowed, falls_apart, few_above, full, shared}
 use Rattle.mat_facts.specs.Holding.{Holds}
-use Rattle.mat_facts.specs.Reasons.{colours_facts, ladder_facts, last_facts, reason_of, size_facts}
+use Rattle.mat_facts.specs.Reasons.{colours_facts, each_size, ladder_facts, last_facts, reason_of, sizes_facts, whole_facts}
 use Rattle.mat_facts.specs.Answers.{AreAllowedRungs, rungs_of}
 use Rattle.mat_facts.specs.Sufficing.{ShowsNoLarger, Suffice}
 use Rattle.mat_facts.proofs.BestOfRungs.{ShowsFallingRungs}
 use Rattle.mat_facts.proofs.GivenBounds.{FallingBound, bound_by_one, terms_of}
 use Rattle.mat_facts.proofs.HeaviestTerms.{terms_of_heaviest}
-use Rattle.mat_facts.proofs.ListedFacts.{all_in_all, all_one, all_two, stands_in_all, stands_later}
+use Rattle.mat_facts.proofs.ListedFacts.{all_one, all_told, all_two, stands_in_told, stands_later}
 use Rattle.mat_facts.proofs.RightRungs.{each_rung_shown, ladder_allowed, ladder_holds}
 use Rattle.mat_facts.proofs.RulesOfProblems.{both_allow, one_allows, rules_are_matroids}
 
 -- the facts hold and suffice
 abbrev pub GivesReason : Instance → Certificate → Type 0
-GivesReason problem answer = All (Holds problem answer) (reason_of problem answer) × Suffice problem answer (reason_of problem answer)
+GivesReason problem answer =
+    All (Holds problem answer) (reason_of each_size problem answer) × Suffice problem answer (reason_of each_size problem answer)
 
--- the facts of an answer with a set of each size hold, its sets are allowed, and each bounds its size by steps that fall
-pub record GivesRungs (problem : Instance) (answer : Certificate) : Type 0 where
-  pub hold : All (Holds problem answer) (reason_of problem answer)
+-- the facts of an answer with a set of each size hold, its sets are allowed, and each that is told bounds its size by steps that fall
+pub record GivesRungs (told : ℕ → Bool) (problem : Instance) (answer : Certificate) : Type 0 where
+  pub hold : All (Holds problem answer) (reason_of told problem answer)
   pub are : AreAllowedRungs problem (rungs_of answer)
-  pub rungs : ShowsFallingRungs problem (rungs_of answer) (reason_of problem answer)
+  pub rungs : ShowsFallingRungs told problem (rungs_of answer) (reason_of told problem answer)
 
-pub intersection_gives : (w : List Weight) (first second : Tree) (n : ℕ) (rungs : List PricedRung) (cut : List ℕ) → IsValid (pair w first second)
-    → IsRight (pair w first second) (intersect n rungs cut) → GivesRungs (pair w first second) (intersect n rungs cut)
-intersection_gives w first second n rungs cut valid right =
+pub intersection_gives : (told : ℕ → Bool) (w : List Weight) (first second : Tree) (n : ℕ) (rungs : List PricedRung) (cut : List ℕ) → IsValid (pair w first second)
+    → IsRight (pair w first second) (intersect n rungs cut) → GivesRungs told (pair w first second) (intersect n rungs cut)
+intersection_gives told w first second n rungs cut valid right =
     let problem = pair w first second in
     let answer = intersect n rungs cut in
     let p = is_independent first in
@@ -55,18 +56,18 @@ intersection_gives w first second n rungs cut valid right =
     let laws = rules_are_matroids problem valid in
     let lp : IsMatroid (length w) p = laws.each 0 (omega arith) in
     let lq : IsMatroid (length w) q = laws.each 1 (omega arith) in
-    let are = ladder_allowed problem answer (length w) p q w lp lq rungs cut ladder refl (both_allow p q) in
+    let are = ladder_allowed told problem answer (length w) p q w lp lq rungs cut ladder refl (both_allow p q) in
     record {
-      hold = ladder_holds problem answer (length w) p q w lp lq rungs cut ladder (right.0, are)
+      hold = ladder_holds told problem answer (length w) p q w lp lq rungs cut ladder (right.0, are)
           (λ shares h. h) (λ share terms h. h) (λ share terms h. h) (λ S c h. h) (λ S c h. h);
       are = are;
-      rungs = each_rung_shown problem answer (length w) p q w lp lq rungs cut ladder refl refl (reason_of problem answer) (λ fact h. h);
+      rungs = each_rung_shown told problem answer (length w) p q w lp lq rungs cut ladder refl refl (reason_of told problem answer) (λ fact h. h);
     }
 
-pub assignment_gives : (rows columns : ℕ) (cells : List (ℕ × ℕ)) (w : List Weight) (n r c : ℕ) (rungs : List PricedRung) (cut : List ℕ)
+pub assignment_gives : (told : ℕ → Bool) (rows columns : ℕ) (cells : List (ℕ × ℕ)) (w : List Weight) (n r c : ℕ) (rungs : List PricedRung) (cut : List ℕ)
     → IsValid (table rows columns cells w) → IsRight (table rows columns cells w) (assign n r c rungs cut)
-    → GivesRungs (table rows columns cells w) (assign n r c rungs cut)
-assignment_gives rows columns cells w n r c rungs cut valid right =
+    → GivesRungs told (table rows columns cells w) (assign n r c rungs cut)
+assignment_gives told rows columns cells w n r c rungs cut valid right =
     let problem = table rows columns cells w in
     let answer = assign n r c rungs cut in
     let m = length cells in
@@ -77,15 +78,15 @@ assignment_gives rows columns cells w n r c rungs cut valid right =
     let laws = rules_are_matroids problem valid in
     let lp : IsMatroid m p = laws.each 0 (omega arith) in
     let lq : IsMatroid m q = laws.each 1 (omega arith) in
-    let are = ladder_allowed problem answer m p q w lp lq rungs cut ladder refl (both_allow p q) in
+    let are = ladder_allowed told problem answer m p q w lp lq rungs cut ladder refl (both_allow p q) in
     record {
-      hold = ladder_holds problem answer m p q w lp lq rungs cut ladder (right.0, are)
+      hold = ladder_holds told problem answer m p q w lp lq rungs cut ladder (right.0, are)
           (λ shares h. h) (λ share terms h. h) (λ share terms h. h) (λ S c h. h) (λ S c h. h);
       are = are;
-      rungs = each_rung_shown problem answer m p q w lp lq rungs cut ladder refl refl (reason_of problem answer) (λ fact h. h);
+      rungs = each_rung_shown told problem answer m p q w lp lq rungs cut ladder refl refl (reason_of told problem answer) (λ fact h. h);
     }
 
-module _ (vertices colours : ℕ) (edges : List (ℕ × ℕ)) (colour_of : List ℕ) (w : List Weight) (n v c : ℕ) (rungs : List PricedRung) (cut : List ℕ) where
+module _ (told : ℕ → Bool) (vertices colours : ℕ) (edges : List (ℕ × ℕ)) (colour_of : List ℕ) (w : List Weight) (n v c : ℕ) (rungs : List PricedRung) (cut : List ℕ) where
   abbrev colour : ℕ → ℕ
   colour e = get_or colour_of e 0
 
@@ -101,7 +102,7 @@ module _ (vertices colours : ℕ) (edges : List (ℕ × ℕ)) (colour_of : List 
       all_one (Holds problem (rainbow n v c rungs cut other)) (falls_apart C count) (h.1.set, refl)
 
   pub rainbow_gives : (missing : Option (List ℕ)) → IsValid problem → IsRight problem (rainbow n v c rungs cut missing)
-      → GivesRungs problem (rainbow n v c rungs cut missing)
+      → GivesRungs told problem (rainbow n v c rungs cut missing)
   rainbow_gives missing valid right =
       let answer = rainbow n v c rungs cut missing in
       let m = length edges in
@@ -112,21 +113,21 @@ module _ (vertices colours : ℕ) (edges : List (ℕ × ℕ)) (colour_of : List 
       let laws = rules_are_matroids problem valid in
       let lp : IsMatroid m p = laws.each 0 (omega arith) in
       let lq : IsMatroid m q = laws.each 1 (omega arith) in
-      let are = ladder_allowed problem answer m p q w lp lq rungs cut is.ladder refl (both_allow p q) in
+      let are = ladder_allowed told problem answer m p q w lp lq rungs cut is.ladder refl (both_allow p q) in
       let extra = colours_facts vertices m (ends_of edges) colour missing in
       record {
-        hold = All-append (Holds problem answer) (ladder_facts m p q rungs cut) extra
-            (ladder_holds problem answer m p q w lp lq rungs cut is.ladder (right.0, are)
+        hold = All-append (Holds problem answer) (ladder_facts told m p q rungs cut) extra
+            (ladder_holds told problem answer m p q w lp lq rungs cut is.ladder (right.0, are)
             (λ shares h. h) (λ share terms h. h) (λ share terms h. h) (λ S c h. h) (λ S c h. h))
             (colours_hold missing missing is.missing_colours);
         are = are;
-        rungs = each_rung_shown problem answer m p q w lp lq rungs cut is.ladder refl refl (reason_of problem answer)
-            (λ fact h. Contains-append_left (ladder_facts m p q rungs cut) extra fact h);
+        rungs = each_rung_shown told problem answer m p q w lp lq rungs cut is.ladder refl refl (reason_of told problem answer)
+            (λ fact h. Contains-append_left (ladder_facts told m p q rungs cut) extra fact h);
       }
 
 -- ---- of one matroid
 
-module _ (w : List Weight) (matroid : Tree) (n : ℕ) (rungs : List PlainRung) (valid : IsValid (list w (matroid ∷ [])))
+module _ (told : ℕ → Bool) (w : List Weight) (matroid : Tree) (n : ℕ) (rungs : List PlainRung) (valid : IsValid (list w (matroid ∷ [])))
     (right : IsRight (list w (matroid ∷ [])) (best n rungs)) where
   abbrev single : Instance
   single = list w (matroid ∷ [])
@@ -144,7 +145,7 @@ module _ (w : List Weight) (matroid : Tree) (n : ℕ) (rungs : List PlainRung) (
   are = subst (λ m. AreRightRungs m p w rungs) right.0 right.1
 
   abbrev sizes : List Fact
-  sizes = flat_map (λ (rung : PlainRung). size_facts (w ∷ []) rung.set) rungs
+  sizes = sizes_facts told (whole_facts w) 0 rungs
 
   abbrev ends : List Fact
   ends = last_facts (slice_get rungs (last_rung rungs))
@@ -156,7 +157,7 @@ module _ (w : List Weight) (matroid : Tree) (n : ℕ) (rungs : List PlainRung) (
   ends_hold None e = All-nil (Holds single answer)
   ends_hold (Some rung) e = all_one (Holds single answer) (full rung.set) (are.last rung e)
 
-  sizes_hold : (k : ℕ) (rung : PlainRung) → slice_get rungs k ≡ Some rung → All (Holds single answer) (size_facts (w ∷ []) rung.set)
+  sizes_hold : (k : ℕ) (rung : PlainRung) → slice_get rungs k ≡ Some rung → All (Holds single answer) (whole_facts w rung)
   sizes_hold k rung at =
       all_two (Holds single answer) (shared (w ∷ [])) (few_above 0 w (terms_of w rung.set)) whole
       (terms_of_heaviest lp (weight_at w) rung.set (are.each k rung at).heaviest)
@@ -170,13 +171,14 @@ module _ (w : List Weight) (matroid : Tree) (n : ℕ) (rungs : List PlainRung) (
   rungs_hold =
       All-cons (Holds single answer) allowed (sizes ++ ends) (right.0, are_allowed)
       (All-append (Holds single answer) sizes ends
-      (all_in_all (λ (rung : PlainRung). size_facts (w ∷ []) rung.set) (Holds single answer) rungs sizes_hold) (ends_hold (slice_get rungs (last_rung rungs)) refl))
+      (all_told told (whole_facts w) (Holds single answer) 0 rungs sizes_hold) (ends_hold (slice_get rungs (last_rung rungs)) refl))
 
-  each_bound : (k : ℕ) (rung : PlainRung) → slice_get rungs k ≡ Some rung → FallingBound single (allowed ∷ sizes ++ ends) k rung.weight
-  each_bound k rung at =
-      let tell = λ (fact : Fact) (h : Contains (size_facts (w ∷ []) rung.set) fact).
+  each_bound : (k : ℕ) (rung : PlainRung) → slice_get rungs k ≡ Some rung → told k ≡ true
+      → FallingBound single (allowed ∷ sizes ++ ends) k rung.weight
+  each_bound k rung at is =
+      let tell = λ (fact : Fact) (h : Contains (whole_facts w rung) fact).
       stands_later fact allowed (sizes ++ ends) (Contains-append_left sizes ends fact
-      (stands_in_all (λ (rung : PlainRung). size_facts (w ∷ []) rung.set) rungs k rung fact at h)) in
+      (stands_in_told told (whole_facts w) 0 rungs k rung fact at (let same : k ≡ 0 + k = omega arith in subst (λ j. told j ≡ true) same is) h)) in
       bound_by_one single (allowed ∷ sizes ++ ends) k rung.weight rung.set (are.each k rung at).size refl w
       (tell (shared (w ∷ [])) (0, omega arith, refl)) (tell (few_above 0 w (terms_of w rung.set)) (1, omega arith, refl))
       (at_most_same _ _ (sym (are.each k rung at).priced))
@@ -196,7 +198,7 @@ module _ (w : List Weight) (matroid : Tree) (n : ℕ) (rungs : List PlainRung) (
     | inr past ↦ (let some = are.some in absurd (omega (arith, past.0)))
   ]
 
-  pub best_gives : GivesRungs (list w (matroid ∷ [])) (best n rungs)
+  pub best_gives : GivesRungs told (list w (matroid ∷ [])) (best n rungs)
   best_gives = record {
     hold = rungs_hold;
     are = are_allowed;

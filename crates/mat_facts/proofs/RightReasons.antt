@@ -1,5 +1,6 @@
 -- Each right answer gives a reason: facts that hold and suffice.
-use Rattle.std.proofs.Common.{◌≡◌, ℕ, List, [], ◌∷◌, None, Some, slice_get}
+use Rattle.std.proofs.Common.{◌<◌, ◌-◌, ◌∙◌, suc, true, Bool, length, inl, inr, sym, arith, ◌≡◌, ℕ, List, [], ◌∷◌, None, Some, slice_get}
+use Rattle.std.proofs.lemmas.Option.{slice_get_cases}
 use Rattle.std.specs.List.{All}
 use Rattle.mat_sets.specs.Weights.{◌≼◌}
 use Rattle.mat_cert.specs.declared.answer.PlainRung.{PlainRung}
@@ -10,24 +11,24 @@ use Rattle.mat_cert.specs.Certificates.{arbor, unreached, disjoint, disjoint_non
 use Rattle.mat_right.specs.Right.{IsRight}
 use Rattle.mat_facts.specs.Answers.{rungs_of}
 use Rattle.mat_facts.specs.Holding.{Holds}
-use Rattle.mat_facts.specs.Reasons.{reason_of}
-use Rattle.mat_facts.specs.Sufficing.{BoundsEachSize, ShowsEachRung}
+use Rattle.mat_facts.specs.Reasons.{each_size, reason_of}
+use Rattle.mat_facts.specs.Sufficing.{BoundsEachSize, BoundsSize, ShowsEachRung}
 use Rattle.mat_facts.proofs.BestOfRungs.{heaviest_shown, rungs_shown}
 use Rattle.mat_facts.proofs.RightGraphReasons.{arborescences_give, least_gives, partition_gives, seldom_entered_gives, trees_give, unreached_gives}
 use Rattle.mat_facts.proofs.RightLadderReasons.{assignment_gives, best_gives, intersection_gives, rainbow_gives, GivesReason, GivesRungs}
 use Rattle.mat_facts.proofs.RightSetReasons.{covering_gives, never_gives, no_rank_gives, packing_gives, union_gives}
 
 -- an answer with a set of each size
-of_rungs : (problem : Instance) (answer : Certificate) → GivesRungs problem answer
-    → All (Holds problem answer) (reason_of problem answer) × ShowsEachRung problem (rungs_of answer) (reason_of problem answer)
-of_rungs problem answer g = (g.hold, rungs_shown problem (rungs_of answer) (reason_of problem answer) g.rungs)
+of_rungs : (problem : Instance) (answer : Certificate) → GivesRungs each_size problem answer
+    → All (Holds problem answer) (reason_of each_size problem answer) × ShowsEachRung problem (rungs_of answer) (reason_of each_size problem answer)
+of_rungs problem answer g = (g.hold, rungs_shown problem (rungs_of answer) (reason_of each_size problem answer) g.rungs)
 
 pub right_gives_reason : (problem : Instance) (answer : Certificate) → IsValid problem → IsRight problem answer → GivesReason problem answer
 right_gives_reason (pair w first second) (intersect n rungs cut) valid right =
-    of_rungs (pair w first second) (intersect n rungs cut) (intersection_gives w first second n rungs cut valid right)
+    of_rungs (pair w first second) (intersect n rungs cut) (intersection_gives each_size w first second n rungs cut valid right)
 right_gives_reason (list w matroids) (union_of n printed parts levels) valid right = union_gives w matroids n printed parts levels valid right
 right_gives_reason (list w (matroid ∷ [])) (best n rungs) valid right =
-    of_rungs (list w (matroid ∷ [])) (best n rungs) (best_gives w matroid n rungs valid right)
+    of_rungs (list w (matroid ∷ [])) (best n rungs) (best_gives each_size w matroid n rungs valid right)
 right_gives_reason (list w (matroid ∷ [])) (pack_any n) valid right = no_rank_gives w matroid n valid right
 right_gives_reason (list w (matroid ∷ [])) (pack n bases cut) valid right = packing_gives w matroid n valid bases cut right
 right_gives_reason (list w (matroid ∷ [])) (cover_never n loop_at) valid right = never_gives w matroid n valid loop_at right
@@ -42,47 +43,76 @@ right_gives_reason (rooted vertices root arcs costs) (disjoint_none n k v set) v
     seldom_entered_gives vertices root arcs costs n k v set right
 right_gives_reason (coloured vertices colours edges colour_of w) (rainbow n v c rungs cut missing) valid right =
     of_rungs (coloured vertices colours edges colour_of w) (rainbow n v c rungs cut missing)
-    (rainbow_gives vertices colours edges colour_of w n v c rungs cut missing valid right)
+    (rainbow_gives each_size vertices colours edges colour_of w n v c rungs cut missing valid right)
 right_gives_reason (table rows columns cells w) (assign n r c rungs cut) valid right =
-    of_rungs (table rows columns cells w) (assign n r c rungs cut) (assignment_gives rows columns cells w n r c rungs cut valid right)
+    of_rungs (table rows columns cells w) (assign n r c rungs cut) (assignment_gives each_size rows columns cells w n r c rungs cut valid right)
 right_gives_reason problem answer valid right = absurd right
 
--- ---- the heaviest of the sets of all sizes
+-- ---- sets of each size
 
 none : {rung : PlainRung} → None ≡ Some rung → ⊥
 none e = cc
 
--- rung k is heaviest among the rungs
-abbrev pub IsHeaviestRung : List PlainRung → PlainRung → Type 0
-IsHeaviestRung rungs rung = (j : ℕ) (other : PlainRung) → slice_get rungs j ≡ Some other → other.weight ≼ rung.weight
+-- the rungs of a right answer that has some
+pub right_gives_rungs : (told : ℕ → Bool) (problem : Instance) (answer : Certificate) → IsValid problem → IsRight problem answer
+    → 0 < length (rungs_of answer) → GivesRungs told problem answer
+right_gives_rungs told (pair w first second) (intersect n rungs cut) valid right some = intersection_gives told w first second n rungs cut valid right
+right_gives_rungs told (list w (matroid ∷ [])) (best n rungs) valid right some = best_gives told w matroid n rungs valid right
+right_gives_rungs told (coloured vertices colours edges colour_of w) (rainbow n v c rungs cut missing) valid right some =
+    rainbow_gives told vertices colours edges colour_of w n v c rungs cut missing valid right
+right_gives_rungs told (table rows columns cells w) (assign n r c rungs cut) valid right some =
+    assignment_gives told rows columns cells w n r c rungs cut valid right
+right_gives_rungs told problem (union_of n printed parts levels) valid right some = absurd (omega arith)
+right_gives_rungs told problem (pack_any n) valid right some = absurd (omega arith)
+right_gives_rungs told problem (pack n bases cut) valid right some = absurd (omega arith)
+right_gives_rungs told problem (cover_never n loop_at) valid right some = absurd (omega arith)
+right_gives_rungs told problem (cover n sets cut) valid right some = absurd (omega arith)
+right_gives_rungs told problem (trees n sets) valid right some = absurd (omega arith)
+right_gives_rungs told problem (trees_none n k v classes) valid right some = absurd (omega arith)
+right_gives_rungs told problem (arbor n cost tree first second) valid right some = absurd (omega arith)
+right_gives_rungs told problem (unreached n v set) valid right some = absurd (omega arith)
+right_gives_rungs told problem (disjoint n sets) valid right some = absurd (omega arith)
+right_gives_rungs told problem (disjoint_none n k v set) valid right some = absurd (omega arith)
+right_gives_rungs told problem answer valid right some = absurd right
 
-best_of_rungs : (problem : Instance) (answer : Certificate) → IsValid problem → GivesRungs problem answer
-    → (k : ℕ) (rung : PlainRung) → slice_get (rungs_of answer) k ≡ Some rung → IsHeaviestRung (rungs_of answer) rung
-    → BoundsEachSize problem (reason_of problem answer) k rung.weight
-best_of_rungs problem answer valid g k rung at heaviest =
-    heaviest_shown problem answer (reason_of problem answer) valid g.hold (rungs_of answer) g.are g.rungs k rung at heaviest
+-- whatever sizes are told, the facts hold
+pub told_facts_hold : (told : ℕ → Bool) (problem : Instance) (answer : Certificate) → IsValid problem → IsRight problem answer
+    → All (Holds problem answer) (reason_of told problem answer)
+told_facts_hold told (pair w first second) (intersect n rungs cut) valid right = (intersection_gives told w first second n rungs cut valid right).hold
+told_facts_hold told (list w (matroid ∷ [])) (best n rungs) valid right = (best_gives told w matroid n rungs valid right).hold
+told_facts_hold told (coloured vertices colours edges colour_of w) (rainbow n v c rungs cut missing) valid right =
+    (rainbow_gives told vertices colours edges colour_of w n v c rungs cut missing valid right).hold
+told_facts_hold told (table rows columns cells w) (assign n r c rungs cut) valid right =
+    (assignment_gives told rows columns cells w n r c rungs cut valid right).hold
+told_facts_hold told (list w matroids) (union_of n printed parts levels) valid right =
+    (union_gives w matroids n printed parts levels valid right).0
+told_facts_hold told (list w (matroid ∷ [])) (pack_any n) valid right = (no_rank_gives w matroid n valid right).0
+told_facts_hold told (list w (matroid ∷ [])) (pack n bases cut) valid right = (packing_gives w matroid n valid bases cut right).0
+told_facts_hold told (list w (matroid ∷ [])) (cover_never n loop_at) valid right = (never_gives w matroid n valid loop_at right).0
+told_facts_hold told (list w (matroid ∷ [])) (cover n sets cut) valid right = (covering_gives w matroid n valid sets cut right).0
+told_facts_hold told (graph vertices edges) (trees n sets) valid right = (trees_give vertices edges n sets right).0
+told_facts_hold told (graph vertices edges) (trees_none n k v classes) valid right = (partition_gives vertices edges n k v classes right).0
+told_facts_hold told (rooted vertices root arcs costs) (arbor n cost tree first second) valid right =
+    (least_gives vertices root arcs costs n cost tree first second valid right).0
+told_facts_hold told (rooted vertices root arcs costs) (unreached n v set) valid right = (unreached_gives vertices root arcs costs n v set right).0
+told_facts_hold told (rooted vertices root arcs costs) (disjoint n sets) valid right = (arborescences_give vertices root arcs costs n sets right).0
+told_facts_hold told (rooted vertices root arcs costs) (disjoint_none n k v set) valid right =
+    (seldom_entered_gives vertices root arcs costs n k v set right).0
+told_facts_hold told problem answer valid right = absurd right
 
-pub heaviest_rung_shown : (problem : Instance) (answer : Certificate) → IsValid problem → IsRight problem answer
-    → (k : ℕ) (rung : PlainRung) → slice_get (rungs_of answer) k ≡ Some rung → IsHeaviestRung (rungs_of answer) rung
-    → BoundsEachSize problem (reason_of problem answer) k rung.weight
-heaviest_rung_shown (pair w first second) (intersect n rungs cut) valid right =
-    best_of_rungs (pair w first second) (intersect n rungs cut) valid (intersection_gives w first second n rungs cut valid right)
-heaviest_rung_shown (list w (matroid ∷ [])) (best n rungs) valid right =
-    best_of_rungs (list w (matroid ∷ [])) (best n rungs) valid (best_gives w matroid n rungs valid right)
-heaviest_rung_shown (coloured vertices colours edges colour_of w) (rainbow n v c rungs cut missing) valid right =
-    best_of_rungs (coloured vertices colours edges colour_of w) (rainbow n v c rungs cut missing) valid
-    (rainbow_gives vertices colours edges colour_of w n v c rungs cut missing valid right)
-heaviest_rung_shown (table rows columns cells w) (assign n r c rungs cut) valid right =
-    best_of_rungs (table rows columns cells w) (assign n r c rungs cut) valid (assignment_gives rows columns cells w n r c rungs cut valid right)
-heaviest_rung_shown problem (union_of n printed parts levels) valid right = λ k rung at h. absurd (none at)
-heaviest_rung_shown problem (pack_any n) valid right = λ k rung at h. absurd (none at)
-heaviest_rung_shown problem (pack n bases cut) valid right = λ k rung at h. absurd (none at)
-heaviest_rung_shown problem (cover_never n loop_at) valid right = λ k rung at h. absurd (none at)
-heaviest_rung_shown problem (cover n sets cut) valid right = λ k rung at h. absurd (none at)
-heaviest_rung_shown problem (trees n sets) valid right = λ k rung at h. absurd (none at)
-heaviest_rung_shown problem (trees_none n k v classes) valid right = λ k rung at h. absurd (none at)
-heaviest_rung_shown problem (arbor n cost tree first second) valid right = λ k rung at h. absurd (none at)
-heaviest_rung_shown problem (unreached n v set) valid right = λ k rung at h. absurd (none at)
-heaviest_rung_shown problem (disjoint n sets) valid right = λ k rung at h. absurd (none at)
-heaviest_rung_shown problem (disjoint_none n k v set) valid right = λ k rung at h. absurd (none at)
-heaviest_rung_shown problem answer valid right = absurd right
+module _ (told : ℕ → Bool) (problem : Instance) (answer : Certificate) (valid : IsValid problem) (right : IsRight problem answer)
+    (k : ℕ) (rung : PlainRung) (at : slice_get (rungs_of answer) k ≡ Some rung) (here : told k ≡ true) where
+  some_rung : 0 < length (rungs_of answer)
+  some_rung = elim (slice_get_cases (rungs_of answer) k).1 [ | inl found ↦ omega (arith, found.1) | inr past ↦ absurd (none (sym past.1 ∙ at)) ]
+
+  -- a size that is told is bounded
+  pub told_size_bounded : BoundsSize problem (reason_of told problem answer) k rung.weight
+  told_size_bounded = ((right_gives_rungs told problem answer valid right some_rung).rungs.each k rung at here).bound
+
+  -- the heaviest of all, where the sizes beside it are told too
+  pub heaviest_rung_shown : told (k - 1) ≡ true → told (suc k) ≡ true
+      → ((j : ℕ) (other : PlainRung) → slice_get (rungs_of answer) j ≡ Some other → other.weight ≼ rung.weight)
+      → BoundsEachSize problem (reason_of told problem answer) k rung.weight
+  heaviest_rung_shown before behind heaviest =
+      let g = right_gives_rungs told problem answer valid right some_rung in
+      heaviest_shown problem answer (reason_of told problem answer) valid g.hold told (rungs_of answer) g.are g.rungs k rung at here before behind heaviest

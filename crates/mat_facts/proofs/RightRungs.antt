@@ -1,11 +1,10 @@
 -- A right ladder of two rules gives facts that hold and suffice: each rung bounds its size by the terms of its set, and the cut all sizes.
-use Rattle.std.proofs.Common.{◌≡◌, ◌<◌, ℕ, zero, suc, Bool, true, List, [], ◌∷◌, ◌++◌, length, map, None, Some, slice_get, inl, inr, refl, sym, ap, ◌∙◌, subst, arith}
+use Rattle.std.proofs.Common.{◌≡◌, ◌+◌, ◌<◌, ℕ, zero, suc, Bool, true, List, [], ◌∷◌, ◌++◌, length, map, None, Some, slice_get, inl, inr, refl, sym, ap, ◌∙◌, subst, arith}
 use Rattle.std.proofs.lemmas.Int.{ints}
 use Rattle.std.proofs.lemmas.List.{length-map}
 use Rattle.std.proofs.lemmas.List.Elements.{All-append, All-cons, Contains-append_left, Contains-append_right}
 use Rattle.std.proofs.lemmas.Option.{same_Some}
 use Rattle.std.specs.List.{All, Contains}
-use Rattle.std.specs.Prelude.{flat_map}
 use Rattle.mat_sets.specs.Sets.{all_below, minus}
 use Rattle.mat_sets.specs.Weights.{◌⊕◌, weight, weight_at}
 use Rattle.mat_sets.specs.declared.weight.Weight.{Weight}
@@ -24,12 +23,12 @@ use Rattle.mat_facts.specs.Answers.{AreAllowedRungs, IsAllowedRung, plain_rung}
 use Rattle.mat_facts.specs.Facts.{Fact, allowed, at_most, few_above, shared}
 use Rattle.mat_facts.specs.Holding.{Holds}
 use Rattle.mat_facts.specs.Problems.{AllAllow, rule_count, size_of, weights_of}
-use Rattle.mat_facts.specs.Reasons.{cut_facts, ladder_facts, shares_of, size_facts}
+use Rattle.mat_facts.specs.Reasons.{cut_facts, ladder_facts, rung_facts, shares_of, size_facts, sizes_facts}
 use Rattle.mat_facts.specs.Sufficing.{ShowsNoLarger}
 use Rattle.mat_facts.proofs.GivenBounds.{FallingBound, allows_rank, bound_by_two, divided_by_cut, terms_of}
 use Rattle.mat_facts.proofs.HeaviestTerms.{terms_of_heaviest}
 use Rattle.mat_facts.proofs.BestOfRungs.{ShowsFallingRungs}
-use Rattle.mat_facts.proofs.ListedFacts.{all_in_all, all_three, all_two, stands_in_all, stands_later}
+use Rattle.mat_facts.proofs.ListedFacts.{all_three, all_told, all_two, stands_in_told, stands_later}
 
 -- a rung without its split comes of one that has it
 of_mapped : (rungs : List PricedRung) (k : ℕ) (rung : PlainRung) → slice_get (map plain_rung rungs) k ≡ Some rung
@@ -52,7 +51,7 @@ pub size_holds : (H : Fact → Type 0) (first second : List Weight) (set : List 
 size_holds H first second set a b c =
     all_three H (shared (first ∷ second ∷ [])) (few_above 0 first (terms_of first set)) (few_above 1 second (terms_of second set)) a b c
 
-module _ (problem : Instance) (answer : Certificate) (n : ℕ) (p q : List ℕ → Bool) (w : List Weight) (lp : IsMatroid n p) (lq : IsMatroid n q)
+module _ (told : ℕ → Bool) (problem : Instance) (answer : Certificate) (n : ℕ) (p q : List ℕ → Bool) (w : List Weight) (lp : IsMatroid n p) (lq : IsMatroid n q)
     (rungs : List PricedRung) (cut : List ℕ) (right : IsRightLadder n p q w rungs cut) where
   -- what a form of answer adds: that facts on the two rules are facts of the problem
   module _ (holds_allowed : Holds problem answer allowed)
@@ -76,12 +75,11 @@ module _ (problem : Instance) (answer : Certificate) (n : ℕ) (p q : List ℕ �
         (holds_outer outer (rank p outer) (allows_rank lp outer (IsSet-minus n (all_below n) cut (IsSet-all_below n))))
         (holds_inner cut (rank q cut) (allows_rank lq cut right.ends.set))
 
-    pub ladder_holds : All (Holds problem answer) (ladder_facts n p q rungs cut)
+    pub ladder_holds : All (Holds problem answer) (ladder_facts told n p q rungs cut)
     ladder_holds =
-        let sizes = flat_map (λ (rung : PricedRung). size_facts (shares_of rung) rung.set) rungs in
+        let sizes = sizes_facts told rung_facts 0 rungs in
         All-cons (Holds problem answer) allowed (sizes ++ cut_facts n p q cut) holds_allowed
-        (All-append (Holds problem answer) sizes (cut_facts n p q cut)
-        (all_in_all (λ (rung : PricedRung). size_facts (shares_of rung) rung.set) (Holds problem answer) rungs rung_holds) cut_holds)
+        (All-append (Holds problem answer) sizes (cut_facts n p q cut) (all_told told rung_facts (Holds problem answer) 0 rungs rung_holds) cut_holds)
 
   -- the sets are allowed
   pub ladder_allowed : (weights_of problem ≡ w) → ((X : List ℕ) → p X ≡ true → q X ≡ true → AllAllow problem X)
@@ -97,24 +95,24 @@ module _ (problem : Instance) (answer : Certificate) (n : ℕ) (p q : List ℕ �
 
   -- they suffice, in any list in which they stand
   module _ (two : rule_count problem ≡ 2) (size : size_of problem ≡ n) (facts : List Fact)
-      (within : (fact : Fact) → Contains (ladder_facts n p q rungs cut) fact → Contains facts fact) where
+      (within : (fact : Fact) → Contains (ladder_facts told n p q rungs cut) fact → Contains facts fact) where
     abbrev in_ladder : List Fact
-    in_ladder = flat_map (λ (rung : PricedRung). size_facts (shares_of rung) rung.set) rungs
+    in_ladder = sizes_facts told rung_facts 0 rungs
 
-    of_rung : (k : ℕ) (rung : PricedRung) → slice_get rungs k ≡ Some rung → (fact : Fact)
-        → Contains (size_facts (shares_of rung) rung.set) fact → Contains facts fact
-    of_rung k rung at fact h =
+    of_rung : (k : ℕ) (rung : PricedRung) → slice_get rungs k ≡ Some rung → told k ≡ true → (fact : Fact)
+        → Contains (rung_facts rung) fact → Contains facts fact
+    of_rung k rung at is fact h =
         within fact (stands_later fact allowed (in_ladder ++ cut_facts n p q cut) (Contains-append_left in_ladder (cut_facts n p q cut) fact
-        (stands_in_all (λ (rung : PricedRung). size_facts (shares_of rung) rung.set) rungs k rung fact at h)))
+        (stands_in_told told rung_facts 0 rungs k rung fact at (let same : k ≡ 0 + k = omega arith in subst (λ j. told j ≡ true) same is) h)))
 
     of_cut : (fact : Fact) → Contains (cut_facts n p q cut) fact → Contains facts fact
     of_cut fact h = within fact (stands_later fact allowed (in_ladder ++ cut_facts n p q cut) (Contains-append_right in_ladder (cut_facts n p q cut) fact h))
 
-    pub rung_bounds : (k : ℕ) (rung : PricedRung) → slice_get rungs k ≡ Some rung → FallingBound problem facts k rung.weight
-    rung_bounds k rung at =
+    pub rung_bounds : (k : ℕ) (rung : PricedRung) → slice_get rungs k ≡ Some rung → told k ≡ true → FallingBound problem facts k rung.weight
+    rung_bounds k rung at told_here =
         let r = right.each k rung at in
         let is = r.right in
-        let tell = of_rung k rung at in
+        let tell = of_rung k rung at told_here in
         let split = split_weight n p q w k rung.set rung.first rung.second is rung.set (lp.sets rung.set is.first_heaviest.passes) in
         bound_by_two problem facts k rung.weight rung.set is.size two rung.first rung.second
         (tell (shared (shares_of rung)) (0, omega arith, refl)) (tell (few_above 0 rung.first (terms_of rung.first rung.set)) (1, omega arith, refl))
@@ -128,11 +126,11 @@ module _ (problem : Instance) (answer : Certificate) (n : ℕ) (p q : List ℕ �
         (of_cut (at_most 0 outer (rank p outer)) (0, omega arith, refl)) (of_cut (at_most 1 cut (rank q cut)) (1, omega arith, refl))
         (let some = right.some in let ranks = right.ends.ranks in omega arith)))
 
-    pub each_rung_shown : ShowsFallingRungs problem (map plain_rung rungs) facts
+    pub each_rung_shown : ShowsFallingRungs told problem (map plain_rung rungs) facts
     each_rung_shown = record {
       says_allowed = within allowed (0, omega arith, refl);
-      each = λ k rung at.
+      each = λ k rung at is.
           let found = of_mapped rungs k rung at in
-          subst (λ (r : PlainRung). FallingBound problem facts k r.weight) found.2 (rung_bounds k found.0 found.1);
+          subst (λ (r : PlainRung). FallingBound problem facts k r.weight) found.2 (rung_bounds k found.0 found.1 is);
       larger = subst (ShowsNoLarger problem facts) (sym (length-map rungs plain_rung)) no_larger;
     }

@@ -1,6 +1,6 @@
 -- The reason that a right answer gives: a list of facts, each counted from the problem and the answer, of which the laws say that they hold and
 -- suffice.
-use Rattle.std.specs.Prelude.{ℕ, suc, Bool, List, [], ◌∷◌, ◌++◌, length, map, flat_map, Option, None, Some, slice_get, slice_index}
+use Rattle.std.specs.Prelude.{ℕ, suc, Bool, true, ◌||◌, ◌==◌, if◌then◌else◌, List, [], ◌∷◌, ◌++◌, length, map, flat_map, Option, None, Some, slice_get, slice_index}
 use Rattle.mat_sets.specs.FallingWeights.{heavy}
 use Rattle.mat_sets.specs.Families.{family_union}
 use Rattle.mat_sets.specs.Graphs.{ends_of, entering}
@@ -41,13 +41,34 @@ shares_of rung = rung.first ∷ rung.second ∷ []
 
 -- ---- ladders
 
+-- which sizes a reason speaks of: each, or those for which this holds
+abbrev pub each_size : ℕ → Bool
+each_size k = true
+
+-- the sizes that show that the set of one size is heaviest of all, and that of the last heaviest of its size: these two, and those beside the first
+abbrev pub told_sizes : ℕ → ℕ → ℕ → Bool
+told_sizes heaviest last k = (k == heaviest || (suc k == heaviest || k == suc heaviest)) || k == last
+
+-- the facts of the sizes that are told; the first rung is that of k
+abbrev pub sizes_facts : {R : Type 0} → (ℕ → Bool) → (R → List Fact) → ℕ → List R → List Fact
+sizes_facts told facts k [] = []
+sizes_facts told facts k (rung ∷ rungs) = (if told k then facts rung else []) ++ sizes_facts told facts (suc k) rungs
+
 -- that no set is larger: what the first rule allows outside the cut, and the second inside
 abbrev pub cut_facts : ℕ → (List ℕ → Bool) → (List ℕ → Bool) → List ℕ → List Fact
 cut_facts n p q cut = at_most 0 (minus (all_below n) cut) (rank p (minus (all_below n) cut)) ∷ at_most 1 cut (rank q cut) ∷ []
 
--- that the set of each rung is a heaviest one of its size, and that none is larger
-abbrev pub ladder_facts : ℕ → (List ℕ → Bool) → (List ℕ → Bool) → List PricedRung → List ℕ → List Fact
-ladder_facts n p q rungs cut = allowed ∷ flat_map (λ rung. size_facts (shares_of rung) rung.set) rungs ++ cut_facts n p q cut
+-- that the set of a rung is a heaviest one of its size
+abbrev pub rung_facts : PricedRung → List Fact
+rung_facts rung = size_facts (shares_of rung) rung.set
+
+-- that the sets of the sizes that are told are heaviest ones, and that none is larger
+abbrev pub ladder_facts : (ℕ → Bool) → ℕ → (List ℕ → Bool) → (List ℕ → Bool) → List PricedRung → List ℕ → List Fact
+ladder_facts told n p q rungs cut = allowed ∷ sizes_facts told rung_facts 0 rungs ++ cut_facts n p q cut
+
+-- the same of one matroid, to whose elements their whole weights are given
+abbrev pub whole_facts : List Weight → PlainRung → List Fact
+whole_facts w rung = size_facts (w ∷ []) rung.set
 
 -- that to the last set no element can be added
 abbrev pub last_facts : Option PlainRung → List Fact
@@ -82,28 +103,28 @@ colours_facts vertices n ends colour (Some C) = falls_apart C (number_of_compone
 abbrev pub entered_facts : List (ℕ × ℕ) → List ℕ → List Fact
 entered_facts arcs set = without_root set ∷ entered_by set (entering (ends_of arcs) (all_below (length arcs)) set) ∷ []
 
--- the facts that an answer gives
-abbrev pub reason_of : Instance → Certificate → List Fact
-reason_of (pair w first second) (intersect n rungs cut) = ladder_facts (length w) (is_independent first) (is_independent second) rungs cut
-reason_of (list w matroids) (union_of n printed parts levels) =
+-- the facts that an answer gives; of an answer with a set of each size, for the sizes that are told
+abbrev pub reason_of : (ℕ → Bool) → Instance → Certificate → List Fact
+reason_of told (pair w first second) (intersect n rungs cut) = ladder_facts told (length w) (is_independent first) (is_independent second) rungs cut
+reason_of told (list w matroids) (union_of n printed parts levels) =
     allowed ∷ flat_map (level_facts (map is_independent matroids) w parts) levels
-reason_of (list w (matroid ∷ [])) (best n rungs) =
-    allowed ∷ flat_map (λ rung. size_facts (w ∷ []) rung.set) rungs ++ last_facts (slice_get rungs (last_rung rungs))
-reason_of (list w (matroid ∷ [])) (pack_any n) = at_most 0 (all_below (length w)) 0 ∷ []
-reason_of (list w (matroid ∷ [])) (pack n bases cut) =
+reason_of told (list w (matroid ∷ [])) (best n rungs) =
+    allowed ∷ sizes_facts told (whole_facts w) 0 rungs ++ last_facts (slice_get rungs (last_rung rungs))
+reason_of told (list w (matroid ∷ [])) (pack_any n) = at_most 0 (all_below (length w)) 0 ∷ []
+reason_of told (list w (matroid ∷ [])) (pack n bases cut) =
     allowed ∷ at_most 0 cut (rank (is_independent matroid) cut) ∷ full (part_at bases 0) ∷ []
-reason_of (list w (matroid ∷ [])) (cover_never n loop_at) = allowed ∷ at_most 0 (loop_at ∷ []) 0 ∷ []
-reason_of (list w (matroid ∷ [])) (cover n sets cut) = allowed ∷ cover_facts (is_independent matroid) cut
-reason_of (graph vertices edges) (trees n sets) = allowed ∷ []
-reason_of (graph vertices edges) (trees_none n k v classes) =
+reason_of told (list w (matroid ∷ [])) (cover_never n loop_at) = allowed ∷ at_most 0 (loop_at ∷ []) 0 ∷ []
+reason_of told (list w (matroid ∷ [])) (cover n sets cut) = allowed ∷ cover_facts (is_independent matroid) cut
+reason_of told (graph vertices edges) (trees n sets) = allowed ∷ []
+reason_of told (graph vertices edges) (trees_none n k v classes) =
     groups classes ∷ between classes (crossing (length edges) (ends_of edges) classes) ∷ []
-reason_of (rooted vertices root arcs costs) (arbor n cost tree first second) = allowed ∷ size_facts (first ∷ second ∷ []) tree
-reason_of (rooted vertices root arcs costs) (unreached n v set) = entered_facts arcs set
-reason_of (rooted vertices root arcs costs) (disjoint n sets) = allowed ∷ []
-reason_of (rooted vertices root arcs costs) (disjoint_none n k v set) = entered_facts arcs set
-reason_of (coloured vertices colours edges colour_of w) (rainbow n v c rungs cut missing) =
-    ladder_facts (length edges) (is_graphic (length edges) (ends_of edges)) (is_once (length edges) colours (slice_index colour_of)) rungs cut
+reason_of told (rooted vertices root arcs costs) (arbor n cost tree first second) = allowed ∷ size_facts (first ∷ second ∷ []) tree
+reason_of told (rooted vertices root arcs costs) (unreached n v set) = entered_facts arcs set
+reason_of told (rooted vertices root arcs costs) (disjoint n sets) = allowed ∷ []
+reason_of told (rooted vertices root arcs costs) (disjoint_none n k v set) = entered_facts arcs set
+reason_of told (coloured vertices colours edges colour_of w) (rainbow n v c rungs cut missing) =
+    ladder_facts told (length edges) (is_graphic (length edges) (ends_of edges)) (is_once (length edges) colours (slice_index colour_of)) rungs cut
     ++ colours_facts vertices (length edges) (ends_of edges) (slice_index colour_of) missing
-reason_of (table rows columns cells w) (assign n r c rungs cut) =
-    ladder_facts (length cells) (is_once (length cells) rows (row_at cells)) (is_once (length cells) columns (column_at cells)) rungs cut
-reason_of problem answer = []
+reason_of told (table rows columns cells w) (assign n r c rungs cut) =
+    ladder_facts told (length cells) (is_once (length cells) rows (row_at cells)) (is_once (length cells) columns (column_at cells)) rungs cut
+reason_of told problem answer = []

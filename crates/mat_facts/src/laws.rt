@@ -1,6 +1,6 @@
 //! Which facts suffice, and that right answers give them. Each law is the contract of a function that does nothing.
 
-ghost use Rattle.std.specs.Prelude.{◌≡◌, ◌<◌, ◌⊎◌, ℕ, List, length, slice_get, slice_index, Some, All};
+ghost use Rattle.std.specs.Prelude.{◌≡◌, ◌<◌, ◌-◌, ◌⊎◌, ℕ, suc, Bool, true, List, length, slice_get, slice_index, Some, All};
 ghost use Rattle.mat_sets.specs.{Graphs.{ends_of}, Weights.{◌≼◌, weight}, declared.weight.Weight.{Weight}};
 ghost use Rattle.mat_fronts.specs.Rainbow.{IsRainbowTree};
 ghost use Rattle.mat_problem.specs.{Instances.{Instance, coloured}, Validity.{IsValid}};
@@ -12,7 +12,7 @@ ghost use Rattle.mat_facts.specs.{
   Facts.{Fact},
   Holding.{Holds},
   Problems.{AllAllow, weights_of},
-  Reasons.{reason_of},
+  Reasons.{each_size, reason_of},
   Sufficing.{BoundsEachSize, BoundsSize, IsNothing, ShowsNoLarger, ShowsNoRainbowTree, Suffice},
 };
 
@@ -53,18 +53,25 @@ pub fn facts_exclude_rainbow_trees()
         → (X : List ℕ) → ¬ IsRainbowTree vertices (length edges) (ends_of edges) (slice_index colour_of) X }
 {}
 
-/// A right answer gives a reason: each of its facts holds, and together they suffice.
+/// A right answer gives a reason: each of its facts holds, whatever sizes are told, and those of all sizes together suffice.
 pub fn right_answers_give_reasons()
-    ensures hold { (problem : Instance) (answer : Certificate) → IsValid problem → IsRight problem answer
-        → All (Holds problem answer) (reason_of problem answer) }
+    ensures hold { (told : ℕ → Bool) (problem : Instance) (answer : Certificate) → IsValid problem → IsRight problem answer
+        → All (Holds problem answer) (reason_of told problem answer) }
     ensures suffice { (problem : Instance) (answer : Certificate) → IsValid problem → IsRight problem answer
-        → Suffice problem answer (reason_of problem answer) }
+        → Suffice problem answer (reason_of each_size problem answer) }
 {}
 
-/// Of a right answer with a set of each size, the heaviest of the sets is shown by the answer's reason to be heaviest of all sizes.
-pub fn heaviest_rung_is_shown()
-    ensures { (problem : Instance) (answer : Certificate) → IsValid problem → IsRight problem answer
-        → (k : ℕ) (rung : PlainRung) → slice_get (rungs_of answer) k ≡ Some rung
+/// Of a right answer with a set of each size, the facts that are told suffice: for each size that is told, that no set of it weighs more; where
+/// the sizes beside the heaviest set are told too, that none of any size weighs more; and that none is larger.
+pub fn told_reasons_suffice()
+    ensures size { (told : ℕ → Bool) (problem : Instance) (answer : Certificate) → IsValid problem → IsRight problem answer
+        → (k : ℕ) (rung : PlainRung) → slice_get (rungs_of answer) k ≡ Some rung → told k ≡ true
+        → BoundsSize problem (reason_of told problem answer) k rung.weight }
+    ensures best { (told : ℕ → Bool) (problem : Instance) (answer : Certificate) → IsValid problem → IsRight problem answer
+        → (k : ℕ) (rung : PlainRung) → slice_get (rungs_of answer) k ≡ Some rung → told k ≡ true
+        → told (k - 1) ≡ true → told (suc k) ≡ true
         → ((j : ℕ) (other : PlainRung) → slice_get (rungs_of answer) j ≡ Some other → other.weight ≼ rung.weight)
-        → BoundsEachSize problem (reason_of problem answer) k rung.weight }
+        → BoundsEachSize problem (reason_of told problem answer) k rung.weight }
+    ensures largest { (told : ℕ → Bool) (problem : Instance) (answer : Certificate) → IsValid problem → IsRight problem answer
+        → 0 < length (rungs_of answer) → ShowsNoLarger problem (reason_of told problem answer) (length (rungs_of answer)) }
 {}

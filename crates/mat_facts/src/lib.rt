@@ -6,5 +6,5 @@ mod laws;
 
 pub use laws::{
     facts_bound_a_size, facts_bound_all_sizes, facts_bound_each_size, facts_exclude_rainbow_trees,
-    facts_suffice, heaviest_rung_is_shown, right_answers_give_reasons,
+    facts_suffice, right_answers_give_reasons, told_reasons_suffice,
 };

@@ -1,0 +1,9 @@
+use Rattle.mat_facts.proofs.RightReasons.{heaviest_rung_shown, right_gives_rungs, told_size_bounded}
+use Rattle.mat_facts.proofs.laws.told_reasons_suffice.Goals as goal
+
+pub returns : goal.returns
+returns c = record {
+  size = told_size_bounded;
+  best = heaviest_rung_shown;
+  largest = λ told problem answer valid right some. (right_gives_rungs told problem answer valid right some).rungs.larger;
+}
