@@ -12,6 +12,7 @@ pub mod SufficientLadders
 pub mod SufficientSets
 pub mod SufficientGraphs
 pub mod SufficientFacts
+pub mod ReachingSets
 pub mod ListedFacts
 pub mod GivenBounds
 pub mod BestOfRungs

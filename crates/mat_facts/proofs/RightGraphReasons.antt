@@ -1,16 +1,18 @@
 -- Right answers on graphs give reasons.
-use Rattle.std.proofs.Common.{◌≡◌, ◌<◌, ◌-◌, ℕ, List, [], ◌∷◌, length, map, inr, refl, sym, ap, ◌∙◌, subst, arith}
-use Rattle.std.proofs.lemmas.Bool.{and_parts, both_ways, ltb-true}
+use Rattle.std.proofs.Common.{◌≡◌, ◌<◌, ◌-◌, ℕ, zero, suc, Bool, true, false, not, ◌&&◌, cond, List, [], ◌∷◌, ◌++◌, length, map, inr, refl, sym, ap, ◌∙◌, subst, arith}
+use Rattle.std.proofs.lemmas.Bool.{and_from, and_parts, both_ways, ltb-true, not-true, not_from_false}
+use Rattle.std.proofs.lemmas.Int.{ints}
 use Rattle.std.proofs.lemmas.List.{get_or-map}
-use Rattle.std.proofs.lemmas.List.Elements.{All-cons}
+use Rattle.std.proofs.lemmas.List.Elements.{All-append, All-cons, All-nil, Contains-append_right}
+use Rattle.std.specs.List.{All}
 use Rattle.mat_sets.specs.Graphs.{ends_of, entering, enters, IsUnentered}
 use Rattle.mat_sets.specs.Sets.{all_below, is_member}
-use Rattle.mat_sets.specs.Weights.{◌⊕◌, negated, weight, weight_at, zero_weight}
+use Rattle.mat_sets.specs.Weights.{◌⊕◌, ◌≼◌, is_below, negated, weight, weight_at, zero_weight}
 use Rattle.mat_sets.specs.declared.weight.Weight.{Weight}
 use Rattle.mat_sets.proofs.Crossings.{is_member-entering}
 use Rattle.mat_sets.proofs.DisjointSets.{no_members}
 use Rattle.mat_sets.proofs.Ground.{below_member, is_member-all_below}
-use Rattle.mat_sets.proofs.WeightOrder.{at_most_same}
+use Rattle.mat_sets.proofs.WeightOrder.{at_most_same, not_below_from, not_below_gives, pairs}
 use Rattle.mat_sets.proofs.WeightSums.{weight_sum-plus}
 use Rattle.mat_laws.specs.Matroids.{IsMatroid}
 use Rattle.mat_graphic.specs.Forests.{is_graphic}
@@ -21,12 +23,13 @@ use Rattle.mat_problem.specs.Instances.{Instance, graph, rooted}
 use Rattle.mat_problem.specs.Validity.{IsValid}
 use Rattle.mat_cert.specs.Certificates.{Certificate, arbor, disjoint, disjoint_none, trees, trees_none, unreached}
 use Rattle.mat_right.specs.Right.{IsRight}
-use Rattle.mat_facts.specs.Facts.{allowed, between, entered_by, groups, without_root}
+use Rattle.mat_facts.specs.Facts.{Fact, allowed, between, entered_by, groups, none_gains, without_root}
 use Rattle.mat_facts.specs.Holding.{Holds}
-use Rattle.mat_facts.specs.Reasons.{size_facts}
+use Rattle.mat_facts.specs.Sufficing.{ShowsCheapestReach}
+use Rattle.mat_facts.specs.Reasons.{are_costs, costs_facts, each_size, reason_of, size_facts}
 use Rattle.mat_facts.proofs.GivenBounds.{bound_by_two}
 use Rattle.mat_facts.proofs.HeaviestTerms.{terms_of_heaviest}
-use Rattle.mat_facts.proofs.ListedFacts.{all_one, all_two}
+use Rattle.mat_facts.proofs.ListedFacts.{all_one, all_two, stands_later}
 use Rattle.mat_facts.proofs.NegatedCosts.{negated_weight}
 use Rattle.mat_facts.proofs.RightLadderReasons.{GivesReason}
 use Rattle.mat_facts.proofs.RightRungs.{size_holds, two_shares_add}
@@ -55,6 +58,18 @@ partition_gives vertices edges n k v classes right =
         few = is.few;
       },
     )
+
+-- each cost is at least 0 where the test says so, and the other way
+cost_at : (costs : List Weight) → are_costs costs ≡ true → (a : ℕ) → a < length costs → zero_weight ≼ weight_at costs a
+cost_at [] e a l = absurd (omega arith)
+cost_at (cost ∷ costs) e zero l = not_below_gives cost zero_weight (not-true _ (and_parts (not (is_below cost zero_weight)) (are_costs costs) e).0)
+cost_at (cost ∷ costs) e (suc a) l = cost_at costs (and_parts (not (is_below cost zero_weight)) (are_costs costs) e).1 a (omega arith)
+
+costs_from : (costs : List Weight) → ((a : ℕ) → a < length costs → zero_weight ≼ weight_at costs a) → are_costs costs ≡ true
+costs_from [] h = refl
+costs_from (cost ∷ costs) h =
+    and_from (not (is_below cost zero_weight)) (are_costs costs) (not_from_false _ (not_below_from cost zero_weight (h 0 (omega arith))))
+    (costs_from costs (λ a l. h (suc a) (omega arith)))
 
 module _ (vertices root : ℕ) (arcs : List (ℕ × ℕ)) (costs : List Weight) (n : ℕ) where
   abbrev problem : Instance
@@ -99,6 +114,18 @@ module _ (vertices root : ℕ) (arcs : List (ℕ × ℕ)) (costs : List Weight) 
     abbrev shares : List (List Weight)
     shares = first ∷ second ∷ []
 
+    abbrev facts : List Fact
+    facts = allowed ∷ size_facts shares tree ++ costs_facts costs
+
+    -- where no cost is below 0, no arc weighs more than nothing
+    costs_hold : (b : Bool) → are_costs costs ≡ b → All (Holds problem answer) (cond b (none_gains ∷ []) [])
+    costs_hold true e = all_one (Holds problem answer) none_gains (λ a l.
+        let inside : a < length costs = let long = valid.4 in omega arith in
+        let cost = cost_at costs e a inside in
+        let same = get_or-map negated costs a zero_weight zero_weight inside in
+        omega (arith, ints, pairs))
+    costs_hold false e = All-nil (Holds problem answer)
+
     split_at : (e : ℕ) → e < length arcs → weight_at first e ⊕ weight_at second e ≡ weight_at (map negated costs) e
     split_at e l =
         let inside : e < length costs = let long = valid.4 in omega arith in
@@ -117,12 +144,22 @@ module _ (vertices root : ℕ) (arcs : List (ℕ × ℕ)) (costs : List Weight) 
         let lq : IsMatroid (length arcs) (is_entering_once (length arcs) vertices (ends_of arcs) root) = laws.each 1 (omega arith) in
         let is = right.2 in
         let size : length tree ≡ vertices - 1 = let s = is.spanning.size in omega arith in (
-          All-cons (Holds problem answer) allowed (size_facts shares tree) (right.0, (is.spanning, right.1))
+          All-cons (Holds problem answer) allowed (size_facts shares tree ++ costs_facts costs) (right.0, (is.spanning, right.1))
+              (All-append (Holds problem answer) (size_facts shares tree) (costs_facts costs)
               (size_holds (Holds problem answer) first second tree (two_shares_add (length arcs) (map negated costs) first second split_at)
-              (terms_of_heaviest lp (weight_at first) tree is.first_heaviest) (terms_of_heaviest lq (weight_at second) tree is.second_heaviest)),
+              (terms_of_heaviest lp (weight_at first) tree is.first_heaviest) (terms_of_heaviest lq (weight_at second) tree is.second_heaviest))
+              (costs_hold (are_costs costs) refl)),
           (
             (0, omega arith, refl),
-            inr (bound_by_two problem (allowed ∷ size_facts shares tree) (vertices - 1) (negated cost) tree size refl first second
+            inr (bound_by_two problem facts (vertices - 1) (negated cost) tree size refl first second
                 (1, omega arith, refl) (2, omega arith, refl) (3, omega arith, refl) (at_most_same _ _ weighs)).bound,
           ),
         )
+
+    -- where no cost is below 0, the reason says that more arcs only cost more
+    pub says_none_gains : ((a : ℕ) → a < length costs → zero_weight ≼ weight_at costs a) → ShowsCheapestReach problem (reason_of each_size problem answer) cost
+    says_none_gains none = record {
+      says_none_gains = stands_later none_gains allowed (size_facts shares tree ++ costs_facts costs)
+          (Contains-append_right (size_facts shares tree) (costs_facts costs) none_gains (rw (costs_from costs none) (0, omega arith, refl)));
+      bound = least_gives.1.1;
+    }

@@ -103,7 +103,7 @@ told_facts_hold told problem answer valid right = absurd right
 module _ (told : ℕ → Bool) (problem : Instance) (answer : Certificate) (valid : IsValid problem) (right : IsRight problem answer)
     (k : ℕ) (rung : PlainRung) (at : slice_get (rungs_of answer) k ≡ Some rung) (here : told k ≡ true) where
   some_rung : 0 < length (rungs_of answer)
-  some_rung = elim (slice_get_cases (rungs_of answer) k).1 [ | inl found ↦ omega (arith, found.1) | inr past ↦ absurd (none (sym past.1 ∙ at)) ]
+  some_rung = elim (slice_get_cases (rungs_of answer) k).1 [ inl found ↦ omega (arith, found.1) | inr past ↦ absurd (none (sym past.1 ∙ at)) ]
 
   -- a size that is told is bounded
   pub told_size_bounded : BoundsSize problem (reason_of told problem answer) k rung.weight

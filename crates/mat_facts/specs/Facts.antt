@@ -26,3 +26,5 @@ pub data Fact : Type 0 where
   without_root : List ℕ → Fact
   -- the arcs from elsewhere into these vertices are these
   entered_by : List ℕ → List ℕ → Fact
+  -- no element weighs more than nothing: of arcs, no cost is below 0
+  none_gains : Fact

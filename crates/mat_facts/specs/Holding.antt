@@ -4,6 +4,7 @@ use Rattle.mat_sets.specs.FallingWeights.{heavy}
 use Rattle.mat_sets.specs.Families.{family_union, multiplicity}
 use Rattle.mat_sets.specs.Graphs.{ends_of, entering, IsRootFree}
 use Rattle.mat_sets.specs.Sets.{all_below, intersection, is_member, IsSet}
+use Rattle.mat_sets.specs.Weights.{◌≼◌, weight_at, zero_weight}
 use Rattle.mat_laws.specs.Matroids.{IsBase}
 use Rattle.mat_graphic.specs.Forests.{number_of_components}
 use Rattle.mat_packing.specs.Trees.{crossing}
@@ -11,7 +12,7 @@ use Rattle.mat_union.specs.Unions.{part_at}
 use Rattle.mat_fronts.specs.Rainbow.{edges_without}
 use Rattle.mat_problem.specs.Instances.{Instance}
 use Rattle.mat_cert.specs.Certificates.{Certificate}
-use Rattle.mat_facts.specs.Facts.{Fact, allowed, at_most, shared, few_above, full, in_parts, groups, between, falls_apart, without_root, entered_by}
+use Rattle.mat_facts.specs.Facts.{Fact, allowed, at_most, shared, few_above, full, in_parts, groups, between, falls_apart, without_root, entered_by, none_gains}
 use Rattle.mat_facts.specs.Answers.{IsAllowed, parts_of}
 use Rattle.mat_facts.specs.Problems.{colours_of, edges_of, root_of, rule_at, rule_count, size_of, vertices_of, weights_of}
 use Rattle.mat_facts.specs.Allowances.{AddUp, AllowsAtMost, HasFewAbove}
@@ -38,3 +39,4 @@ Holds problem answer (falls_apart C q) =
     (edges_without (size_of problem) (slice_index (colours_of problem).1) C) ≡ q)
 Holds problem answer (without_root set) = IsRootFree (vertices_of problem) (root_of problem) set
 Holds problem answer (entered_by set arcs) = entering (ends_of (edges_of problem)) (all_below (size_of problem)) set ≡ arcs
+Holds problem answer none_gains = (e : ℕ) → e < size_of problem → weight_at (weights_of problem) e ≼ zero_weight

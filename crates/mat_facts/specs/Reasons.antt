@@ -1,11 +1,11 @@
 -- The reason that a right answer gives: a list of facts, each counted from the problem and the answer, of which the laws say that they hold and
 -- suffice.
-use Rattle.std.specs.Prelude.{ℕ, suc, Bool, true, ◌||◌, ◌==◌, if◌then◌else◌, List, [], ◌∷◌, ◌++◌, length, map, flat_map, Option, None, Some, slice_get, slice_index}
+use Rattle.std.specs.Prelude.{ℕ, suc, Bool, true, not, ◌&&◌, ◌||◌, ◌==◌, if◌then◌else◌, List, [], ◌∷◌, ◌++◌, length, map, flat_map, Option, None, Some, slice_get, slice_index}
 use Rattle.mat_sets.specs.FallingWeights.{heavy}
 use Rattle.mat_sets.specs.Families.{family_union}
 use Rattle.mat_sets.specs.Graphs.{ends_of, entering}
 use Rattle.mat_sets.specs.Sets.{all_below, intersection, minus}
-use Rattle.mat_sets.specs.Weights.{weight_at}
+use Rattle.mat_sets.specs.Weights.{is_below, weight_at, zero_weight}
 use Rattle.mat_sets.specs.declared.weight.Weight.{Weight}
 use Rattle.mat_laws.specs.Ranks.{rank}
 use Rattle.mat_graphic.specs.Forests.{is_graphic, number_of_components}
@@ -21,7 +21,7 @@ use Rattle.mat_cert.specs.Certificates.{arbor, unreached, disjoint, disjoint_non
 use Rattle.mat_cert.specs.declared.answer.LevelLine.{LevelLine}
 use Rattle.mat_cert.specs.declared.answer.PlainRung.{PlainRung}
 use Rattle.mat_cert.specs.declared.answer.PricedRung.{PricedRung}
-use Rattle.mat_facts.specs.Facts.{Fact, allowed, at_most, shared, few_above, full, in_parts, groups, between, falls_apart, without_root, entered_by}
+use Rattle.mat_facts.specs.Facts.{Fact, allowed, at_most, shared, few_above, full, in_parts, groups, between, falls_apart, without_root, entered_by, none_gains}
 use Rattle.mat_facts.specs.Terms.{falling_terms}
 
 -- ---- what a size weighs at most
@@ -103,6 +103,15 @@ colours_facts vertices n ends colour (Some C) = falls_apart C (number_of_compone
 abbrev pub entered_facts : List (ℕ × ℕ) → List ℕ → List Fact
 entered_facts arcs set = without_root set ∷ entered_by set (entering (ends_of arcs) (all_below (length arcs)) set) ∷ []
 
+-- whether no cost is below 0
+abbrev pub are_costs : List Weight → Bool
+are_costs [] = true
+are_costs (cost ∷ costs) = not (is_below cost zero_weight) && are_costs costs
+
+-- and if so, that it is
+abbrev pub costs_facts : List Weight → List Fact
+costs_facts costs = if are_costs costs then none_gains ∷ [] else []
+
 -- the facts that an answer gives; of an answer with a set of each size, for the sizes that are told
 abbrev pub reason_of : (ℕ → Bool) → Instance → Certificate → List Fact
 reason_of told (pair w first second) (intersect n rungs cut) = ladder_facts told (length w) (is_independent first) (is_independent second) rungs cut
@@ -118,7 +127,8 @@ reason_of told (list w (matroid ∷ [])) (cover n sets cut) = allowed ∷ cover_
 reason_of told (graph vertices edges) (trees n sets) = allowed ∷ []
 reason_of told (graph vertices edges) (trees_none n k v classes) =
     groups classes ∷ between classes (crossing (length edges) (ends_of edges) classes) ∷ []
-reason_of told (rooted vertices root arcs costs) (arbor n cost tree first second) = allowed ∷ size_facts (first ∷ second ∷ []) tree
+reason_of told (rooted vertices root arcs costs) (arbor n cost tree first second) =
+    allowed ∷ size_facts (first ∷ second ∷ []) tree ++ costs_facts costs
 reason_of told (rooted vertices root arcs costs) (unreached n v set) = entered_facts arcs set
 reason_of told (rooted vertices root arcs costs) (disjoint n sets) = allowed ∷ []
 reason_of told (rooted vertices root arcs costs) (disjoint_none n k v set) = entered_facts arcs set

@@ -11,9 +11,9 @@ use Rattle.mat_problem.specs.Instances.{Instance, pair, list, graph, rooted, col
 use Rattle.mat_cert.specs.Certificates.{Certificate, intersect, best, union_of, pack_any, pack, cover_never, cover, trees, trees_none}
 use Rattle.mat_cert.specs.Certificates.{arbor, unreached, disjoint, disjoint_none, rainbow, assign}
 use Rattle.mat_cert.specs.declared.answer.PlainRung.{PlainRung}
-use Rattle.mat_facts.specs.Facts.{Fact, allowed, at_most, shared, few_above, full, in_parts, groups, between, falls_apart, without_root, entered_by}
+use Rattle.mat_facts.specs.Facts.{Fact, allowed, at_most, shared, few_above, full, in_parts, groups, between, falls_apart, without_root, entered_by, none_gains}
 use Rattle.mat_facts.specs.Answers.{rungs_of}
-use Rattle.mat_facts.specs.Problems.{rule_count, size_of, weights_of}
+use Rattle.mat_facts.specs.Problems.{rule_count, size_of, vertices_of, weights_of}
 use Rattle.mat_facts.specs.Terms.{count_of_first, list_at, step_at, sum_of_first}
 
 -- ---- sets that all rules allow
@@ -135,6 +135,11 @@ pub record ShowsNoRainbowTree (facts : List Fact) : Type 0 where
   pub count : ℕ
   pub says_groups : Contains facts (falls_apart colours count)
   pub few : length colours + 1 < count
+
+-- no cost is below 0, and an arborescence costs at least this
+pub record ShowsCheapestReach (problem : Instance) (facts : List Fact) (cost : Weight) : Type 0 where
+  pub says_none_gains : Contains facts none_gains
+  pub bound : IsNothing (vertices_of problem - 1) (negated cost) ⊎ BoundsSize problem facts (vertices_of problem - 1) (negated cost)
 
 -- ---- each form
 

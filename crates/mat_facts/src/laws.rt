@@ -1,10 +1,10 @@
 //! Which facts suffice, and that right answers give them. Each law is the contract of a function that does nothing.
 
 ghost use Rattle.std.specs.Prelude.{◌≡◌, ◌<◌, ◌-◌, ◌⊎◌, ℕ, suc, Bool, true, List, length, slice_get, slice_index, Some, All};
-ghost use Rattle.mat_sets.specs.{Graphs.{ends_of}, Weights.{◌≼◌, weight}, declared.weight.Weight.{Weight}};
+ghost use Rattle.mat_sets.specs.{Graphs.{ends_of, Reaches}, Sets.{IsSet}, Weights.{◌≼◌, weight, weight_at, zero_weight}, declared.weight.Weight.{Weight}};
 ghost use Rattle.mat_fronts.specs.Rainbow.{IsRainbowTree};
-ghost use Rattle.mat_problem.specs.{Instances.{Instance, coloured}, Validity.{IsValid}};
-ghost use Rattle.mat_cert.specs.{Certificates.{Certificate}, declared.answer.PlainRung.{PlainRung}};
+ghost use Rattle.mat_problem.specs.{Instances.{Instance, coloured, rooted}, Validity.{IsValid}};
+ghost use Rattle.mat_cert.specs.{Certificates.{Certificate, arbor}, declared.answer.PlainRung.{PlainRung}};
 ghost use Rattle.mat_check.specs.Optimal.{IsOptimal};
 ghost use Rattle.mat_right.specs.Right.{IsRight};
 ghost use Rattle.mat_facts.specs.{
@@ -13,7 +13,7 @@ ghost use Rattle.mat_facts.specs.{
   Holding.{Holds},
   Problems.{AllAllow, weights_of},
   Reasons.{each_size, reason_of},
-  Sufficing.{BoundsEachSize, BoundsSize, IsNothing, ShowsNoLarger, ShowsNoRainbowTree, Suffice},
+  Sufficing.{BoundsEachSize, BoundsSize, IsNothing, ShowsCheapestReach, ShowsNoLarger, ShowsNoRainbowTree, Suffice},
 };
 
 /// No set of k elements that all rules allow weighs more than facts on shares and terms say (Frank 1981). No law of matroids is used but that
@@ -53,6 +53,15 @@ pub fn facts_exclude_rainbow_trees()
         → (X : List ℕ) → ¬ IsRainbowTree vertices (length edges) (ends_of edges) (slice_index colour_of) X }
 {}
 
+/// Where no cost is below 0, arcs along which the root reaches every vertex cost at least as much as a least spanning arborescence, however
+/// many there are. With costs below 0 more arcs may cost less.
+pub fn facts_bound_reaching_sets()
+    ensures { (vertices root : ℕ) (arcs : List (ℕ × ℕ)) (costs : List Weight) (answer : Certificate) (facts : List Fact)
+        → IsValid (rooted vertices root arcs costs) → All (Holds (rooted vertices root arcs costs) answer) facts
+        → (cost : Weight) → ShowsCheapestReach (rooted vertices root arcs costs) facts cost
+        → (Y : List ℕ) → IsSet (length arcs) Y → ((v : ℕ) → v < vertices → Reaches (ends_of arcs) Y root v) → cost ≼ weight costs Y }
+{}
+
 /// A right answer gives a reason: each of its facts holds, whatever sizes are told, and those of all sizes together suffice.
 pub fn right_answers_give_reasons()
     ensures hold { (told : ℕ → Bool) (problem : Instance) (answer : Certificate) → IsValid problem → IsRight problem answer
@@ -62,7 +71,8 @@ pub fn right_answers_give_reasons()
 {}
 
 /// Of a right answer with a set of each size, the facts that are told suffice: for each size that is told, that no set of it weighs more; where
-/// the sizes beside the heaviest set are told too, that none of any size weighs more; and that none is larger.
+/// the sizes beside the heaviest set are told too, that none of any size weighs more; and that none is larger. Of a right arborescence with
+/// no cost below 0 they suffice to show that no arcs along which the root reaches every vertex cost less.
 pub fn told_reasons_suffice()
     ensures size { (told : ℕ → Bool) (problem : Instance) (answer : Certificate) → IsValid problem → IsRight problem answer
         → (k : ℕ) (rung : PlainRung) → slice_get (rungs_of answer) k ≡ Some rung → told k ≡ true
@@ -72,6 +82,10 @@ pub fn told_reasons_suffice()
         → told (k - 1) ≡ true → told (suc k) ≡ true
         → ((j : ℕ) (other : PlainRung) → slice_get (rungs_of answer) j ≡ Some other → other.weight ≼ rung.weight)
         → BoundsEachSize problem (reason_of told problem answer) k rung.weight }
+    ensures reach { (vertices root : ℕ) (arcs : List (ℕ × ℕ)) (costs : List Weight) (n : ℕ) (cost : Weight) (tree : List ℕ) (first second : List Weight)
+        → IsValid (rooted vertices root arcs costs) → IsRight (rooted vertices root arcs costs) (arbor n cost tree first second)
+        → ((a : ℕ) → a < length costs → zero_weight ≼ weight_at costs a)
+        → ShowsCheapestReach (rooted vertices root arcs costs) (reason_of each_size (rooted vertices root arcs costs) (arbor n cost tree first second)) cost }
     ensures largest { (told : ℕ → Bool) (problem : Instance) (answer : Certificate) → IsValid problem → IsRight problem answer
         → 0 < length (rungs_of answer) → ShowsNoLarger problem (reason_of told problem answer) (length (rungs_of answer)) }
 {}

@@ -1,3 +1,4 @@
+use Rattle.mat_facts.proofs.RightGraphReasons.{says_none_gains}
 use Rattle.mat_facts.proofs.RightReasons.{heaviest_rung_shown, right_gives_rungs, told_size_bounded}
 use Rattle.mat_facts.proofs.laws.told_reasons_suffice.Goals as goal
 
@@ -5,5 +6,6 @@ pub returns : goal.returns
 returns c = record {
   size = told_size_bounded;
   best = heaviest_rung_shown;
+  reach = says_none_gains;
   largest = λ told problem answer valid right some. (right_gives_rungs told problem answer valid right some).rungs.larger;
 }
