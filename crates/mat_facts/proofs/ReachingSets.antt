@@ -1,9 +1,9 @@
 -- Where no cost is below 0, arcs along which the root reaches every vertex cost at least as much as a spanning arborescence among them.
-use Rattle.std.proofs.Common.{◌≡◌, ◌<◌, ◌≤◌, ◌+◌, ◌-◌, ◌⊎◌, ℕ, Bool, true, false, ◌&&◌, cond, List, [], ◌∷◌, length, map, refl, sym, ap, ◌∙◌, subst, arith}
-use Rattle.std.proofs.lemmas.Bool.{and_from, or_left, or_right}
+use Rattle.std.proofs.Common.{◌≡◌, ◌<◌, ◌≤◌, ◌+◌, ◌-◌, ℕ, Bool, true, false, ◌&&◌, cond, List, [], ◌∷◌, length, map, refl, ◌∙◌, subst, arith}
+use Rattle.std.proofs.lemmas.Bool.{and_from, or_right}
 use Rattle.std.proofs.lemmas.Int.{ints}
 use Rattle.std.proofs.lemmas.List.{get_or-map}
-use Rattle.std.specs.List.{All, Contains, filter}
+use Rattle.std.specs.List.{All, filter}
 use Rattle.mat_sets.specs.Families.{indicator}
 use Rattle.mat_sets.specs.Graphs.{ends_of, entering, enters, IsGraph, IsSpanningArborescence, Reaches}
 use Rattle.mat_sets.specs.Sets.{is_member, IsSet, IsSubset}

@@ -1,5 +1,5 @@
 -- Each right answer gives a reason: facts that hold and suffice.
-use Rattle.std.proofs.Common.{◌<◌, ◌-◌, ◌∙◌, suc, true, Bool, length, inl, inr, sym, arith, ◌≡◌, ℕ, List, [], ◌∷◌, None, Some, slice_get}
+use Rattle.std.proofs.Common.{◌<◌, ◌-◌, ◌∙◌, suc, true, Bool, length, inl, inr, sym, arith, ◌≡◌, ℕ, [], ◌∷◌, None, Some, slice_get}
 use Rattle.std.proofs.lemmas.Option.{slice_get_cases}
 use Rattle.std.specs.List.{All}
 use Rattle.mat_sets.specs.Weights.{◌≼◌}

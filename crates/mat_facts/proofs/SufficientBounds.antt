@@ -24,7 +24,7 @@ module _ (problem : Instance) (answer : Certificate) (facts : List Fact) (valid 
   pub said : (fact : Fact) → Contains facts fact → Holds problem answer fact
   said fact at = All-contains (Holds problem answer) facts fact hold at
 
-  -- no elements weigh nothing
+  -- the empty set weighs nothing
   nothing_is_bounded : (k : ℕ) (most : Weight) → IsNothing k most → (X : List ℕ) → length X ≤ k → weight (weights_of problem) X ≼ most
   nothing_is_bounded k most none [] size = none.1
   nothing_is_bounded k most none (x ∷ X) size = absurd (omega arith)

@@ -1,6 +1,6 @@
 -- The reason that a right answer gives: a list of facts, each counted from the problem and the answer, of which the laws say that they hold and
 -- suffice.
-use Rattle.std.specs.Prelude.{ℕ, suc, Bool, true, not, ◌&&◌, ◌||◌, ◌==◌, if◌then◌else◌, List, [], ◌∷◌, ◌++◌, length, map, flat_map, Option, None, Some, slice_get, slice_index}
+use Rattle.std.specs.Prelude.{ℕ, suc, ◌+◌, Bool, true, not, ◌&&◌, ◌||◌, ◌==◌, if◌then◌else◌, List, [], ◌∷◌, ◌++◌, length, map, flat_map, Option, None, Some, slice_get, slice_index}
 use Rattle.mat_sets.specs.FallingWeights.{heavy}
 use Rattle.mat_sets.specs.Families.{family_union}
 use Rattle.mat_sets.specs.Graphs.{ends_of, entering}
@@ -47,7 +47,7 @@ each_size k = true
 
 -- the sizes that show that the set of one size is heaviest of all, and that of the last heaviest of its size: these two, and those beside the first
 abbrev pub told_sizes : ℕ → ℕ → ℕ → Bool
-told_sizes heaviest last k = (k == heaviest || (suc k == heaviest || k == suc heaviest)) || k == last
+told_sizes heaviest last k = (k == heaviest || (k + 1 == heaviest || k == heaviest + 1)) || k == last
 
 -- the facts of the sizes that are told; the first rung is that of k
 abbrev pub sizes_facts : {R : Type 0} → (ℕ → Bool) → (R → List Fact) → ℕ → List R → List Fact

@@ -28,7 +28,7 @@ pub record BoundsSize (problem : Instance) (facts : List Fact) (k : ℕ) (most :
   pub long : (i : ℕ) → i < rule_count problem → length (list_at terms i) ≡ k
   pub total : sum_of_first (step_at terms (rule_count problem)) k ≼ most
 
--- no elements weigh nothing
+-- the empty set weighs nothing
 abbrev pub IsNothing : ℕ → Weight → Type 0
 IsNothing k most = (k ≡ 0) × (zero_weight ≼ most)
 
