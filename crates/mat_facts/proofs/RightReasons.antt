@@ -1,5 +1,6 @@
 -- Each right answer gives a reason: facts that hold and suffice.
-use Rattle.std.proofs.Common.{◌<◌, ◌-◌, ◌∙◌, suc, true, Bool, length, inl, inr, sym, arith, ◌≡◌, ℕ, [], ◌∷◌, None, Some, slice_get}
+use Rattle.std.proofs.Common.{◌<◌, ◌-◌, ◌∙◌, suc, true, Bool, length, inl, inr, sym, arith, ◌≡◌, ℕ, [], ◌∷◌, None, Some, slice_get, ◌+◌, ◌≤◌, ◌⊎◌, ◌||◌, eqb, refl}
+use Rattle.std.proofs.lemmas.Bool.{cases_lt, eq-eqb, or_left, or_right}
 use Rattle.std.proofs.lemmas.Option.{slice_get_cases}
 use Rattle.std.specs.List.{All}
 use Rattle.mat_sets.specs.Weights.{◌≼◌}
@@ -11,7 +12,7 @@ use Rattle.mat_cert.specs.Certificates.{arbor, unreached, disjoint, disjoint_non
 use Rattle.mat_right.specs.Right.{IsRight}
 use Rattle.mat_facts.specs.Answers.{rungs_of}
 use Rattle.mat_facts.specs.Holding.{Holds}
-use Rattle.mat_facts.specs.Reasons.{each_size, reason_of}
+use Rattle.mat_facts.specs.Reasons.{each_size, reason_of, told_sizes}
 use Rattle.mat_facts.specs.Sufficing.{BoundsEachSize, BoundsSize, ShowsEachRung}
 use Rattle.mat_facts.proofs.BestOfRungs.{heaviest_shown, rungs_shown}
 use Rattle.mat_facts.proofs.RightGraphReasons.{arborescences_give, least_gives, partition_gives, seldom_entered_gives, trees_give, unreached_gives}
@@ -74,6 +75,21 @@ right_gives_rungs told problem (unreached n v set) valid right some = absurd (om
 right_gives_rungs told problem (disjoint n sets) valid right some = absurd (omega arith)
 right_gives_rungs told problem (disjoint_none n k v set) valid right some = absurd (omega arith)
 right_gives_rungs told problem answer valid right some = absurd right
+
+-- the sizes that are told for the heaviest set and for the last: both, and those beside the first
+pub told_sizes_are : (k last : ℕ) → (told_sizes k last k ≡ true) × (told_sizes k last (k - 1) ≡ true) × (told_sizes k last (suc k) ≡ true)
+    × (told_sizes k last last ≡ true)
+told_sizes_are k last = (
+  or_left (eqb k k || (eqb (k + 1) k || eqb k (k + 1))) (eqb k last) (or_left (eqb k k) (eqb (k + 1) k || eqb k (k + 1)) (eq-eqb k k refl)),
+  or_left (eqb (k - 1) k || (eqb (k - 1 + 1) k || eqb (k - 1) (k + 1))) (eqb (k - 1) last) (before (cases_lt 0 k)),
+  or_left (eqb (suc k) k || (eqb (suc k + 1) k || eqb (suc k) (k + 1))) (eqb (suc k) last)
+      (or_right (eqb (suc k) k) _ (or_right (eqb (suc k + 1) k) (eqb (suc k) (k + 1)) (eq-eqb (suc k) (k + 1) (omega arith)))),
+  or_right _ (eqb last last) (eq-eqb last last refl),
+)
+  where
+    before : (0 < k) ⊎ (k ≤ 0) → (eqb (k - 1) k || (eqb (k - 1 + 1) k || eqb (k - 1) (k + 1))) ≡ true
+    before (inl some) = or_right (eqb (k - 1) k) _ (or_left (eqb (k - 1 + 1) k) (eqb (k - 1) (k + 1)) (eq-eqb (k - 1 + 1) k (omega arith)))
+    before (inr none) = or_left (eqb (k - 1) k) _ (eq-eqb (k - 1) k (omega arith))
 
 -- whatever sizes are told, the facts hold
 pub told_facts_hold : (told : ℕ → Bool) (problem : Instance) (answer : Certificate) → IsValid problem → IsRight problem answer

@@ -12,7 +12,7 @@ ghost use Rattle.mat_facts.specs.{
   Facts.{Fact},
   Holding.{Holds},
   Problems.{AllAllow, weights_of},
-  Reasons.{each_size, reason_of},
+  Reasons.{each_size, reason_of, told_sizes},
   Sufficing.{BoundsEachSize, BoundsSize, IsNothing, ShowsCheapestReach, ShowsNoLarger, ShowsNoRainbowTree, Suffice},
 };
 
@@ -71,9 +71,11 @@ pub fn right_answers_give_reasons()
 {}
 
 /// Of a right answer with a set of each size, the facts that are told suffice: for each size that is told, that no set of it weighs more; where
-/// the sizes beside the heaviest set are told too, that none of any size weighs more; and that none is larger. Of a right arborescence with
+/// the sizes beside the heaviest set are told too, that none of any size weighs more; and that none is larger. `told_sizes` tells these sizes. Of a right arborescence with
 /// no cost below 0 they suffice to show that no arcs along which the root reaches every vertex cost less.
 pub fn told_reasons_suffice()
+    ensures told { (heaviest last : ℕ) → (told_sizes heaviest last heaviest ≡ true) × (told_sizes heaviest last (heaviest - 1) ≡ true)
+        × (told_sizes heaviest last (suc heaviest) ≡ true) × (told_sizes heaviest last last ≡ true) }
     ensures size { (told : ℕ → Bool) (problem : Instance) (answer : Certificate) → IsValid problem → IsRight problem answer
         → (k : ℕ) (rung : PlainRung) → slice_get (rungs_of answer) k ≡ Some rung → told k ≡ true
         → BoundsSize problem (reason_of told problem answer) k rung.weight }

@@ -1,9 +1,10 @@
 use Rattle.mat_facts.proofs.RightGraphReasons.{says_none_gains}
-use Rattle.mat_facts.proofs.RightReasons.{heaviest_rung_shown, right_gives_rungs, told_size_bounded}
+use Rattle.mat_facts.proofs.RightReasons.{heaviest_rung_shown, right_gives_rungs, told_size_bounded, told_sizes_are}
 use Rattle.mat_facts.proofs.laws.told_reasons_suffice.Goals as goal
 
 pub returns : goal.returns
 returns c = record {
+  told = told_sizes_are;
   size = told_size_bounded;
   best = heaviest_rung_shown;
   reach = says_none_gains;
