@@ -8,9 +8,6 @@ use Rattle.mat_facts.specs.Facts.{Fact}
 use Rattle.mat_facts.specs.Reasons.{sizes_facts}
 
 module _ {X : Type 0} where
-  pub stands_first : (x : X) (xs : List X) → Contains (x ∷ xs) x
-  stands_first x xs = (0, omega arith, refl)
-
   pub stands_later : (x y : X) (xs : List X) → Contains xs x → Contains (y ∷ xs) x
   stands_later x y xs h = let l = h.1 in (suc h.0, omega arith, h.2)
 
