@@ -23,7 +23,7 @@ use Rattle.mat_laws.proofs.TightArcs.{heaviest_addable_gives, heaviest_addable_f
 use Rattle.mat_exchange.proofs.CutsWithoutSlack.{some_heaviest_addable}
 use Rattle.mat_exchange.proofs.LeastSlacks.{least_slack_or_none}
 use Rattle.mat_exchange.proofs.Growing.{AreExchangesOn, IsGrowing, root_below, in_others, others_below, others_outside, growing_start}
-use Rattle.mat_exchange.proofs.Growing.{grown_by_sink, grown_unchanged, grown_without_slack}
+use Rattle.mat_exchange.proofs.Growing.{ends_without_source, grown_by_sink, grown_unchanged, grown_without_slack}
 use Rattle.mat_exchange.proofs.GrowthChanges.{EntersLate, entry_not_above, entry_shifts, growing_by, levelled_by_entry, levelled_by_sink, sink_by_slack}
 use Rattle.mat_exchange.proofs.GrowthEntries.{growing_more}
 use Rattle.mat_exchange.proofs.GrowthSteps.{others_start}
@@ -121,8 +121,8 @@ grown_split_exists {n} {I} {a} {b} on_a on_b u1 u2 small gains1 gains2 = elim (c
   | inr none ↦ (
     u1,
     u2,
-    grown_unchanged n a b u1 u2 (λ x. false_from_ne_true (a.adds x) (λ k.
-        both_ways _ (some_below_none n x a.adds none (on_a.adds_below x k)) k)) gains1 gains2,
+    grown_unchanged n a b u1 u2 (ends_without_source (λ x. false_from_ne_true (a.adds x) (λ k.
+        both_ways _ (some_below_none n x a.adds none (on_a.adds_below x k)) k))) gains1 gains2,
   )
   | inl some ↦ (let s = some_below_gives n a.adds some in
       let t = some_heaviest_addable n a u1 s.0 s.1 s.2 in
