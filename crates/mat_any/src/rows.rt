@@ -47,7 +47,7 @@ pub(crate) fn row(
     ensures rises { IfOk result (λ e. IsRising e.with) }
 {
     match (matroid, kept) {
-        (AnyMatroid::Uniform(uniform), _) => uniform.circuit(alloc, base, x),
+        (AnyMatroid::Uniform(uniform), _) => uniform.row(alloc, base, &(), x),
         (AnyMatroid::Partition(partition), AnyKept::Partition(sets)) => {
             partition.row(alloc, base, sets, x)
         }

@@ -5,20 +5,20 @@ use Rattle.std.proofs.lemmas.Bool.{cases_lt}
 use Rattle.std.proofs.lemmas.List.{get_or_append_left, get_or_push, length_push}
 use Rattle.std.proofs.lemmas.Option.{same_Some}
 use Rattle.mat_cert.specs.declared.answer.PricedRung.{PricedRung}
-use Rattle.mat_check.specs.BeatenRungs.{AreTold, IsTold}
+use Rattle.mat_check.specs.BeatenRungs.{AreJudged, IsJudged}
 use Rattle.mat_check.specs.declared.ladder.halves.Side.{Side}
 
 module _ (n : ℕ) (p : List ℕ → Bool) (side : Side) (rungs : List PricedRung) where
-  pub none_told : AreTold n p side rungs []
+  pub none_told : AreJudged n p side rungs []
   none_told = λ k rung at inside. absurd (omega (arith, inside))
 
   -- one rung more
-  pub one_more_told : (beaten more : List Bool) (b : Bool) (rung : PricedRung) → AreTold n p side rungs beaten → more ≡ beaten ++ b ∷ []
-      → slice_get rungs (length beaten) ≡ Some rung → IsTold n p side rung b → AreTold n p side rungs more
+  pub one_more_told : (beaten more : List Bool) (b : Bool) (rung : PricedRung) → AreJudged n p side rungs beaten → more ≡ beaten ++ b ∷ []
+      → slice_get rungs (length beaten) ≡ Some rung → IsJudged n p side rung b → AreJudged n p side rungs more
   one_more_told beaten more b rung told is at this =
-      subst (AreTold n p side rungs) (sym is) (λ k other here inside. elim (cases_lt k (length beaten)) [
-        | inl l ↦ subst (IsTold n p side other) (sym (get_or_append_left beaten (b ∷ []) false k l)) (told k other here l)
+      subst (AreJudged n p side rungs) (sym is) (λ k other here inside. elim (cases_lt k (length beaten)) [
+        | inl l ↦ subst (IsJudged n p side other) (sym (get_or_append_left beaten (b ∷ []) false k l)) (told k other here l)
         | inr g ↦ (let last : k ≡ length beaten = omega (arith, g, inside, length_push beaten b) in
             let same : rung ≡ other = same_Some rung other (sym at ∙ ap (slice_get rungs) (sym last) ∙ here) in
-            subst (IsTold n p side other) (sym (get_or_push beaten b false k (sym last))) (subst (λ r. IsTold n p side r b) same this))
+            subst (IsJudged n p side other) (sym (get_or_push beaten b false k (sym last))) (subst (λ r. IsJudged n p side r b) same this))
       ])

@@ -7,12 +7,12 @@ use Rattle.mat_check.specs.Halves.{half_of}
 use Rattle.mat_check.specs.declared.ladder.halves.Side.{Side}
 
 -- whether the set of a rung is beaten in a matroid under its half; of a dependent set nothing is told
-abbrev pub IsTold : ℕ → (List ℕ → Bool) → Side → PricedRung → Bool → Type 0
-IsTold n independent side rung beaten =
+abbrev pub IsJudged : ℕ → (List ℕ → Bool) → Side → PricedRung → Bool → Type 0
+IsJudged n independent side rung beaten =
     independent rung.set ≡ true → beaten ≡ is_beaten n independent (weight_at (half_of side rung)) rung.set
 
 -- the same of each rung, as far as the list goes
-abbrev pub AreTold : ℕ → (List ℕ → Bool) → Side → List PricedRung → List Bool → Type 0
-AreTold n independent side rungs beaten =
+abbrev pub AreJudged : ℕ → (List ℕ → Bool) → Side → List PricedRung → List Bool → Type 0
+AreJudged n independent side rungs beaten =
     (k : ℕ) (rung : PricedRung) → slice_get rungs k ≡ Some rung → k < length beaten
-    → IsTold n independent side rung (slice_index_or beaten k false)
+    → IsJudged n independent side rung (slice_index_or beaten k false)

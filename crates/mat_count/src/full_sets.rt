@@ -10,8 +10,8 @@ use mat_laws::Exchange;
 use mat_sets::{BitSet, ElemSet, SetList};
 use std::alloc::{AllocError, Global};
 
-/// An independent set as bits, and for each listed set (or class) how many of its members are in it, where they are as many as its cap
-/// (Schrijver, chapter 39).
+/// An independent set as bits, and for each listed set (or class) the number of its members in the independent set if they are as many as its
+/// cap, None otherwise (Schrijver, chapter 39).
 #[derive(Debug, Drop)]
 pub struct FullSets {
     base: BitSet,

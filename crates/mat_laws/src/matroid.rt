@@ -335,6 +335,10 @@ impl<M: Matroid> Matroid for &M {
         (**self).row(alloc, base, kept, x)
     }
 
+    fn circuit(&self, alloc: Global, base: &ElemSet, x: u32) -> Result<Exchange, AllocError> {
+        (**self).circuit(alloc, base, x)
+    }
+
     fn circuit_members(
         &self,
         alloc: Global,

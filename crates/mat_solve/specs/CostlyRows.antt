@@ -7,8 +7,8 @@ abbrev pub many_matroids : ℕ
 many_matroids = 16
 
 abbrev mutual
-  -- whether a row may take so long: one that is found by a search of paths or of a matching, or between many matroids, or between some of which one
-  -- has such rows; those of a dual are looked up
+  -- whether a row may take so long: it is found by a search of paths or of a matching, or by one between many matroids, or between matroids of
+  -- which one has such rows; a union within a union counts as one matroid, and the rows of a dual are looked up
   pub has_costly_rows : Tree → Bool
   has_costly_rows (transversal n family) = true
   has_costly_rows (gammoid vertices arcs sources targets) = true

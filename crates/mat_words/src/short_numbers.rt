@@ -1,4 +1,5 @@
-//! Short numbers, read in one pass from the head of what is left of a line up to the space behind them.
+//! Short numbers, read in one pass from the head of what is left of a line up to the space behind them. A function here that answers None
+//! may do so for any line, since its caller then reads the line word by word; only an answer that is there is promised to be right.
 
 ghost use Rattle.std.specs.{
   Prelude.{◌≡◌, ◌≢◌, ◌<◌, ◌≤◌, ◌^◌, ◌∷◌, length, take, get_or, IfSome, IsTrue, ℕ, pos, neg_ℤ, ◌≤ℤ◌},

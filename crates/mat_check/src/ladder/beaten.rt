@@ -6,7 +6,7 @@ ghost use Rattle.mat_any.specs.{Trees.{element_count, is_independent, IsSound}, 
 ghost use Rattle.mat_greedy.specs.Greedy.{AreHeaviestWeights};
 ghost use Rattle.mat_work.specs.Workers.{AreWorkers};
 ghost use Rattle.mat_cert.specs.Certificates.{AreRangedRungs, IsRangedPricedRung};
-ghost use Rattle.mat_check.specs.{BeatenRungs.{AreTold, IsTold}, Halves.{half_at, half_of, halves_of}};
+ghost use Rattle.mat_check.specs.{BeatenRungs.{AreJudged, IsJudged}, Halves.{half_at, half_of, halves_of}};
 
 use crate::ladder::halves::{ListedHalves, Side, half, list_halves};
 use crate::ladder::rung_sums::{RungSums, rung_sums};
@@ -31,7 +31,7 @@ fn is_beaten_by_sums<M: Matroid>(
     requires few { M.ground_size m.now ≤ most_elements }
     requires ranged { IsRangedPricedRung (M.ground_size m.now) k rung.now }
     requires heaviest { AreHeaviestWeights (M.ground_size m.now) (M.indep m.now) (weight_at (half_of side rung.now)) heaviest.now }
-    ensures { IsTold (M.ground_size m.now) (M.indep m.now) side rung.now result }
+    ensures { IsJudged (M.ground_size m.now) (M.indep m.now) side rung.now result }
 {
     m.lawful();
     let size = rung.set.len();
@@ -53,7 +53,7 @@ fn beaten_by_sums<M: Matroid>(
         → AreHeaviestWeights (M.ground_size m.now) (M.indep m.now) (weight_at (half_at (halves_of side rungs.now) k))
         (slice_index_or sums.now k []) }
     ensures count { IfOk result (λ beaten. length beaten.items ≡ length rungs.now) }
-    ensures told { IfOk result (λ beaten. AreTold (M.ground_size m.now) (M.indep m.now) side rungs.now beaten.items) }
+    ensures told { IfOk result (λ beaten. AreJudged (M.ground_size m.now) (M.indep m.now) side rungs.now beaten.items) }
 {
     let mut beaten = Vec::with_capacity(alloc, rungs.len())?;
     for k in 0..rungs.len() as u32 {
@@ -73,7 +73,7 @@ fn beaten_by_exchanges<M: Matroid>(
     requires sound { M.sound m.now }
     requires ranged { AreRangedRungs (IsRangedPricedRung (M.ground_size m.now)) (M.ground_size m.now) rungs.now }
     ensures count { IfOk result (λ beaten. length beaten.items ≡ length rungs.now) }
-    ensures told { IfOk result (λ beaten. AreTold (M.ground_size m.now) (M.indep m.now) side rungs.now beaten.items) }
+    ensures told { IfOk result (λ beaten. AreJudged (M.ground_size m.now) (M.indep m.now) side rungs.now beaten.items) }
 {
     let mut beaten = Vec::with_capacity(alloc, rungs.len())?;
     let mut here = keep_empty(alloc, m)?;
@@ -116,7 +116,7 @@ pub(crate) fn beaten_rungs<R: CheckWorkers>(
     requires ranged { AreRangedRungs (IsRangedPricedRung (element_count (tree_of m.now))) (element_count (tree_of m.now)) rungs.now }
     requires workers { AreWorkers workers }
     ensures count { IfOk result (λ beaten. length beaten.items ≡ length rungs.now) }
-    ensures told { IfOk result (λ beaten. AreTold (element_count (tree_of m.now)) (is_independent (tree_of m.now)) side rungs.now beaten.items) }
+    ensures told { IfOk result (λ beaten. AreJudged (element_count (tree_of m.now)) (is_independent (tree_of m.now)) side rungs.now beaten.items) }
 {
     let halves = list_halves(alloc, rungs, side)?;
     if exchanges_pay(m, &halves) {

@@ -6,7 +6,7 @@ ghost use Rattle.mat_any.specs.{Trees.{element_count, is_independent, IsSound}, 
 ghost use Rattle.mat_cert.specs.Certificates.{IsRangedPlainRung, IsRangedPricedRung};
 ghost use Rattle.mat_greedy.specs.Greedy.{AreHeaviestWeights};
 ghost use Rattle.mat_check.specs.{
-  BeatenRungs.{IsTold},
+  BeatenRungs.{IsJudged},
   Clauses.{first_failure, sum_clause, heaviest_clause, plain_rung_clauses, priced_rung_clauses},
   declared.ladder.halves.Side.TheVariants.{First, Second},
 };
@@ -84,8 +84,8 @@ fn split_failure(
     requires second_lengths { length pair.now.weights.now ≡ element_count (tree_of pair.now.second.now) }
     requires few { length pair.now.weights.now ≤ most_elements }
     requires ranged { IsRangedPricedRung (length pair.now.weights.now) k rung.now }
-    requires first_told { IsTold (element_count (tree_of pair.now.first.now)) (is_independent (tree_of pair.now.first.now)) First rung.now first_beaten }
-    requires second_told { IsTold (element_count (tree_of pair.now.second.now)) (is_independent (tree_of pair.now.second.now)) Second rung.now second_beaten }
+    requires first_told { IsJudged (element_count (tree_of pair.now.first.now)) (is_independent (tree_of pair.now.first.now)) First rung.now first_beaten }
+    requires second_told { IsJudged (element_count (tree_of pair.now.second.now)) (is_independent (tree_of pair.now.second.now)) Second rung.now second_beaten }
     requires first_passes { is_independent (tree_of pair.now.first.now) rung.now.set ≡ true }
     requires second_passes { is_independent (tree_of pair.now.second.now) rung.now.set ≡ true }
     ensures { result ≡ first_failure (
@@ -124,8 +124,8 @@ pub(crate) fn priced_rung_failure(
     requires few { length pair.now.weights.now ≤ most_elements }
     requires small { AreWeightsWithin largest_number pair.now.weights.now }
     requires ranged { IsRangedPricedRung (length pair.now.weights.now) k rung.now }
-    requires first_told { IsTold (element_count (tree_of pair.now.first.now)) (is_independent (tree_of pair.now.first.now)) First rung.now first_beaten }
-    requires second_told { IsTold (element_count (tree_of pair.now.second.now)) (is_independent (tree_of pair.now.second.now)) Second rung.now second_beaten }
+    requires first_told { IsJudged (element_count (tree_of pair.now.first.now)) (is_independent (tree_of pair.now.first.now)) First rung.now first_beaten }
+    requires second_told { IsJudged (element_count (tree_of pair.now.second.now)) (is_independent (tree_of pair.now.second.now)) Second rung.now second_beaten }
     ensures { IfOk result (λ found. found ≡ first_failure (priced_rung_clauses (length pair.now.weights.now)
         (is_independent (tree_of pair.now.first.now)) (is_independent (tree_of pair.now.second.now)) pair.now.weights.now k rung.now)) }
 {

@@ -91,7 +91,7 @@ impl<'a> Model for PricedFailures<'a> {
     ghost use Rattle.mat_any.specs.{Trees.{element_count, is_independent, IsSound}, Views.{tree_of}};
     ghost use Rattle.mat_cert.specs.Certificates.{AreRangedRungs, IsRangedPricedRung};
     ghost use Rattle.mat_check.specs.{
-      BeatenRungs.{AreTold},
+      BeatenRungs.{AreJudged},
       Clauses.{Failure, priced_rung_clauses},
       RungFailures.{rungs_failures},
       declared.ladder.halves.Side.TheVariants.{First, Second},
@@ -109,8 +109,8 @@ impl<'a> Model for PricedFailures<'a> {
         × AreWeightsWithin largest_number job.pair.now.weights.now
         × AreRangedRungs (IsRangedPricedRung (length job.pair.now.weights.now)) (length job.pair.now.weights.now) job.rungs.now
         × (length job.first_beaten.now ≡ length job.rungs.now) × (length job.second_beaten.now ≡ length job.rungs.now)
-        × AreTold (element_count (tree_of job.pair.now.first.now)) (is_independent (tree_of job.pair.now.first.now)) First job.rungs.now job.first_beaten.now
-        × AreTold (element_count (tree_of job.pair.now.second.now)) (is_independent (tree_of job.pair.now.second.now)) Second job.rungs.now job.second_beaten.now };
+        × AreJudged (element_count (tree_of job.pair.now.first.now)) (is_independent (tree_of job.pair.now.first.now)) First job.rungs.now job.first_beaten.now
+        × AreJudged (element_count (tree_of job.pair.now.second.now)) (is_independent (tree_of job.pair.now.second.now)) Second job.rungs.now job.second_beaten.now };
 }
 
 impl RowJob for PricedFailures<'_> {

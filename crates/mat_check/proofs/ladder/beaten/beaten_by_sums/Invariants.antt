@@ -1,10 +1,10 @@
 -- Of the rungs so far it is told whether they are beaten.
 use Rattle.std.proofs.Common.{◌≡◌, length}
-use Rattle.mat_check.specs.BeatenRungs.{AreTold}
+use Rattle.mat_check.specs.BeatenRungs.{AreJudged}
 use Rattle.mat_check.proofs.ladder.beaten.beaten_by_sums.Given as goal
 
 abbrev pub invariant-loop-k : goal.invariant-loop-k
 invariant-loop-k g l = record {
   count : length l.beaten.items ≡ l.k;
-  told : AreTold (g.M.Matroid.ground_size l.m) (g.M.Matroid.indep l.m) l.side l.rungs l.beaten.items;
+  told : AreJudged (g.M.Matroid.ground_size l.m) (g.M.Matroid.indep l.m) l.side l.rungs l.beaten.items;
 }
