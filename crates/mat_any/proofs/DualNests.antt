@@ -1,11 +1,6 @@
 -- A dual of a dual: its test, and what it keeps, are those of the matroid within both.
-use Rattle.std.proofs.Common.{◌≡◌, ℕ, List, ap, subst, ◌∙◌}
-use Rattle.mat_minors.specs.Minors.{is_dual}
+use Rattle.mat_any.proofs.Common.{◌≡◌, ℕ, List, ap, subst, ◌∙◌, is_dual, KeepsAny, KeepsDual, AnyKept, Tree, dual, element_count, is_independent, IsSound, tree_laws}
 use Rattle.mat_minors.proofs.DualOfDual.{dual_of_dual_test}
-use Rattle.mat_any.specs.AnyKeeps.{KeepsAny, KeepsDual}
-use Rattle.mat_any.specs.declared.any_kept.AnyKept.{AnyKept}
-use Rattle.mat_any.specs.Trees.{Tree, dual, element_count, is_independent, IsSound}
-use Rattle.mat_any.specs.TreeLaws.{tree_laws}
 
 -- a matroid t that is the dual of s, and the dual of t
 module _ (t s : Tree) (node : t ≡ dual s) where

@@ -1,15 +1,7 @@
 -- A union of unions is the union of all their matroids, by induction on the tree.
-use Rattle.std.proofs.Common.{◌≡◌, ℕ, zero, suc, ◌<◌, ◌+◌, ◌^◌, Bool, All, List, [], ◌∷◌, ◌++◌, length, get_or, map, take, refl, sym, ap, ◌∙◌, subst, arith, length-append}
-use Rattle.std.proofs.lemmas.List.{get_or-map, length-map}
-use Rattle.std.proofs.lemmas.List.Elements.{All-append, All-cons, All-nil, All-head, All-tail}
-use Rattle.mat_union.specs.GrownParts.{AreKeptParts}
-use Rattle.mat_union.specs.Unions.{part_at, union_test, AreParts}
-use Rattle.mat_union.specs.UnionsOf.{common_size, AreJoined}
-use Rattle.mat_any.specs.FlatUnions.{IsFlat}
-use Rattle.mat_any.specs.Joined.{trees_in}
-use Rattle.mat_any.specs.Views.{tree_of}
-use Rattle.mat_any.specs.declared.any.AnyMatroid.{AnyMatroid}
-use Rattle.mat_any.specs.Trees.{Tree, Trees, union, no_trees, more_trees, flat_of, flat_trees, element_count, first_count, is_independent, tests_of, tree_count, IsSound, AreSoundOn}
+use Rattle.mat_any.proofs.Common.{◌≡◌, ℕ, zero, suc, ◌<◌, ◌+◌, ◌^◌, Bool, All, List, [], ◌∷◌, ◌++◌, length, get_or, map, take, refl, sym, ap, ◌∙◌, subst, arith, length-append, get_or-map, length-map, All-append, All-cons, All-nil, All-head, All-tail, AreKeptParts, part_at, union_test, AreParts}
+use Rattle.mat_any.proofs.Common.{common_size, AreJoined, IsFlat, trees_in, tree_of, AnyMatroid, Tree, Trees, no_trees, more_trees, flat_of, flat_trees, element_count, first_count, is_independent, tests_of, tree_count, IsSound, AreSoundOn}
+use Rattle.mat_any.specs.Trees.{union}
 use Rattle.mat_any.proofs.UnionsOfUnions.{alike_append, alike_nested, alike_same, alike_tests, alike_then, DivideAlike}
 
 pub map_append : {A B : Type 0} (f : A → B) (xs ys : List A) → map f (xs ++ ys) ≡ map f xs ++ map f ys

@@ -1,13 +1,6 @@
 -- The laws of a list of matroids, and of their union.
-use Rattle.std.proofs.Common.{List, map}
-use Rattle.mat_laws.specs.Matroids.{IsMatroid}
-use Rattle.mat_union.specs.Unions.{AreMatroids}
+use Rattle.mat_any.proofs.Common.{List, map, IsMatroid, AreMatroids, AreJoined, elements_in, size_in, test_in, union_in, IsSoundOne, tree_laws, tree_of, AnyMatroid}
 use Rattle.mat_union.specs.UnionOfLaws.{joined_laws, tests_are_matroids}
-use Rattle.mat_union.specs.UnionsOf.{AreJoined}
-use Rattle.mat_any.specs.Joined.{elements_in, size_in, test_in, union_in, IsSoundOne}
-use Rattle.mat_any.specs.TreeLaws.{tree_laws}
-use Rattle.mat_any.specs.Views.{tree_of}
-use Rattle.mat_any.specs.declared.any.AnyMatroid.{AnyMatroid}
 
 pub each_lawful : (ms : List AnyMatroid) → AreJoined elements_in IsSoundOne ms → AreMatroids (size_in ms) (map test_in ms)
 each_lawful ms j = tests_are_matroids elements_in IsSoundOne test_in (λ m h. tree_laws (tree_of m) h) ms j

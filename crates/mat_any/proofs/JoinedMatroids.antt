@@ -1,19 +1,10 @@
 -- A node of a union by the list of its matroids: its tree, its conditions, its test, and what it keeps.
-use Rattle.std.proofs.Common.{Global, Vec, All, ◌≡◌, ℕ, suc, zero, ◌<◌, ◌^◌, List, [], ◌∷◌, length, get_or, map, refl, sym, ap, ◌∙◌, subst, arith}
-use Rattle.std.proofs.lemmas.List.Elements.{All-nil, All-cons}
+use Rattle.mat_any.proofs.Common.{Global, Vec, All, ◌≡◌, ℕ, suc, zero, ◌<◌, ◌^◌, List, [], ◌∷◌, length, get_or, map, refl, sym, ap, ◌∙◌, subst, arith, All-nil, All-cons, family_union, AreKept, part_at, union_test, AreParts, AreJoined, parts_count, KeepsAny, KeepsEach, elements_in, size_in, test_in}
+use Rattle.mat_any.proofs.Common.{trees_in, union_in, IsSoundOne, KeepsOne, KeepsUnion, more_trees, element_count, first_count, is_independent, tests_of, tree_count, IsSound, AreSoundOn, tree_of, trees_of, AnyMatroid, Union, Union', Row_of-AnyMatroid, end_of-AnyMatroid, more_of-AnyMatroid}
+use Rattle.mat_any.proofs.Common.{items-the_row-AnyMatroid, items_hidden-the_row-AnyMatroid-0, AnyKept, Row_of-AnyKept, end_of-AnyKept, more_of-AnyKept, items-the_row-AnyKept, items_hidden-the_row-AnyKept-0}
 use mathlib.Core.Former.{Count}
-use Rattle.mat_sets.specs.Families.{family_union}
-use Rattle.mat_union.specs.GrownParts.{AreKept}
-use Rattle.mat_union.specs.Unions.{part_at, union_test, AreParts}
-use Rattle.mat_union.specs.UnionsOf.{AreJoined}
-use Rattle.mat_union.proofs.SoundMatroids.{parts_count}
-use Rattle.mat_any.specs.AnyKeeps.{KeepsAny, KeepsEach}
-use Rattle.mat_any.specs.Joined.{elements_in, size_in, test_in, trees_in, union_in, IsSoundOne, KeepsOne, KeepsUnion}
-use Rattle.mat_any.specs.Trees.{more_trees, union, element_count, first_count, is_independent, tests_of, tree_count, IsSound, AreSoundOn}
-use Rattle.mat_any.specs.Views.{tree_of, trees_of}
-use Rattle.mat_any.specs.declared.any.AnyMatroid.{AnyMatroid, Union, Union', Row_of-AnyMatroid, end_of-AnyMatroid, more_of-AnyMatroid, items-the_row-AnyMatroid, items_hidden-the_row-AnyMatroid-0}
+use Rattle.mat_any.specs.Trees.{union}
 use Rattle.mat_any.specs.declared.any_kept.AnyKept as kind
-use Rattle.mat_any.specs.declared.any_kept.AnyKept.{AnyKept, Row_of-AnyKept, end_of-AnyKept, more_of-AnyKept, items-the_row-AnyKept, items_hidden-the_row-AnyKept-0}
 
 -- ---- the list of the matroids
 

@@ -1,3 +1,4 @@
+pub mod Common
 mod JoinedLaws
 pub mod JoinedMatroids
 pub mod DualNests

@@ -1,14 +1,6 @@
 -- The matroids of a union of unions: they are joined, their union has its size and its test, and it keeps what it keeps.
-use Rattle.std.proofs.Common.{◌≡◌, ℕ, ◌<◌, ◌^◌, List, length, map, sym, ap, ◌∙◌, subst}
-use Rattle.std.proofs.lemmas.List.{length-map}
-use Rattle.mat_union.specs.GrownParts.{AreKeptParts}
-use Rattle.mat_union.specs.Unions.{union_test}
-use Rattle.mat_union.specs.UnionsOf.{common_size, AreJoined}
-use Rattle.mat_any.specs.AnyKeeps.{KeepsAny}
-use Rattle.mat_any.specs.FlatUnions.{IsFlat}
-use Rattle.mat_any.specs.Parts.{tree_seen, trees_seen, IsUnited}
-use Rattle.mat_any.specs.Trees.{Tree, Trees, union, flat_of, flat_trees, element_count, is_independent, IsSound}
-use Rattle.mat_any.specs.declared.any_kept.AnyKept.{AnyKept}
+use Rattle.mat_any.proofs.Common.{◌≡◌, ℕ, ◌<◌, ◌^◌, List, length, map, sym, ap, ◌∙◌, subst, length-map, AreKeptParts, union_test, common_size, AreJoined, KeepsAny, IsFlat, tree_seen, trees_seen, IsUnited, Tree, Trees, flat_of, flat_trees, element_count, is_independent, IsSound, AnyKept}
+use Rattle.mat_any.specs.Trees.{union}
 use Rattle.mat_any.specs.declared.part.Part.{Part}
 use Rattle.mat_any.proofs.FlatTrees.{flat_union, joined_seen, kept_seen, kept_shown, size_seen, tests_seen}
 

@@ -1,18 +1,13 @@
 -- A union of unions is one union: a set is divided among the matroids of both lists where some subset of it is divided among those of the
 -- first, and what is left among those of the second (Schrijver, chapter 42).
 use mathlib.Core.Path.{fun_ext}
-use Rattle.std.proofs.Common.{◌≡◌, ℕ, Bool, true, ◌&&◌, List, [], ◌∷◌, ◌++◌, length, inl, inr, refl, sym, ap, ◌∙◌, arith}
-use Rattle.std.proofs.lemmas.Bool.{cases_Bool, and_parts, and_from, eqb-true, false≢true}
-use Rattle.std.proofs.lemmas.List.{nil_from_length}
-use Rattle.mat_sets.specs.Sets.{IsRising, IsSet, IsSubset, minus, union}
+use Rattle.mat_any.proofs.Common.{◌≡◌, ℕ, Bool, true, ◌&&◌, List, [], ◌∷◌, ◌++◌, length, inl, inr, refl, sym, ap, ◌∙◌, arith, cases_Bool, and_parts, and_from, eqb-true, false≢true, nil_from_length, IsRising, IsSet, IsSubset, minus, union, IsSet-minus, IsSet-subset, divides, union_test}
 use Rattle.mat_sets.specs.SetTests.{is_set}
 use Rattle.mat_sets.proofs.Members.{set_members, same_members, IsRising-nil, IsRising-minus, IsRising-union}
 use Rattle.mat_sets.proofs.Subsets.{union-left, IsSubset-trans}
-use Rattle.mat_sets.proofs.Ground.{IsSet-minus, IsSet-subset}
 use Rattle.mat_sets.proofs.Search.{some_subset_from, some_subset_gives}
 use Rattle.mat_sets.proofs.SetTests.{IsSet-from_test, test_from-IsSet}
 use Rattle.mat_sets.proofs.Truths.{same_truth}
-use Rattle.mat_union.specs.Unions.{divides, union_test}
 
 -- ---- sets
 

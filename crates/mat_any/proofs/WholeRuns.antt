@@ -1,14 +1,8 @@
 -- A run along what is left takes a maximal independent subset of that. Parts that begin with some of a set and then take what they can of it hold a
 -- maximal independent subset in the end, which is the whole of an independent set.
-use Rattle.std.proofs.Common.{◌≡◌, ℕ, ◌+◌, ◌<◌, ◌≤◌, Bool, true, false, not, ◌&&◌, List, [], length, get_or, refl, sym, arith, subst}
-use Rattle.std.proofs.lemmas.Bool.{both_ways}
-use Rattle.mat_sets.specs.Sets.{is_member, IsSubset, with_one, union}
+use Rattle.mat_any.proofs.Common.{◌≡◌, ℕ, ◌+◌, ◌<◌, ◌≤◌, Bool, true, false, not, ◌&&◌, List, [], length, get_or, refl, sym, arith, subst, both_ways, is_member, IsSubset, with_one, union, grown_along, grown_by, IsMatroid, IsMaximal, run_maximal_of, rising}
 use Rattle.mat_sets.proofs.Subsets.{IsSubset-refl, same_size_subset}
-use Rattle.mat_laws.specs.GreedyRuns.{grown_along, grown_by}
-use Rattle.mat_laws.specs.Matroids.{IsMatroid, IsMaximal}
-use Rattle.mat_laws.proofs.GreedyRunSets.{run_maximal_of}
 use Rattle.mat_laws.proofs.Growing.{IsGrowing, IsGrowing-end, IsGrowing-next, maximal_from_none}
-use Rattle.mat_laws.proofs.Independent.{rising}
 use Rattle.mat_laws.proofs.Maximal.{IsMaximal-largest}
 
 -- what a run along the rest takes is grown from the empty set within the rest

@@ -1,17 +1,8 @@
 -- Sums at vertices, one member and one listed set after the other, and how large they are.
-use Rattle.std.proofs.Common.{◌≡◌, ℕ, ◌+◌, ◌*◌, ◌<◌, ◌||◌, Bool, true, false, List, [], ◌∷◌, ◌++◌, length, get_or, set, take, inl, inr, refl, sym, ap, ◌∙◌, arith, ℤ, pos, ◌+ℤ◌}
-use Rattle.std.proofs.lemmas.Bool.{cases_eq, eq-eqb, ne_eqb, or_right}
-use Rattle.std.proofs.lemmas.Int.{ints}
-use Rattle.std.proofs.lemmas.List.{get_or-set_other, get_or-set_same, length-set, take_more}
+use Rattle.mat_arbor.proofs.Common.{◌≡◌, ℕ, ◌+◌, ◌*◌, ◌<◌, ◌||◌, Bool, true, false, List, [], ◌∷◌, ◌++◌, length, get_or, set, take, inl, inr, refl, sym, ap, ◌∙◌, arith, ℤ, pos, ◌+ℤ◌, cases_eq, eq-eqb, ne_eqb, or_right, ints, get_or-set_other, get_or-set_same, length-set, take_more, is_member}
+use Rattle.mat_arbor.proofs.Common.{IsRising, IsWithin, IsAdded, cost_at, weight_where, CutWeight, weight_around, IsCutWithin}
 use Rattle.std.specs.List.{AllByRecursion}
-use Rattle.mat_sets.specs.Sets.{is_member, IsRising}
-use Rattle.mat_sets.specs.Sums.{IsWithin}
 use Rattle.mat_sets.proofs.Steps.{is_member-take_more, is_member-take_next}
-use Rattle.mat_cuts.specs.Checking.{IsAdded}
-use Rattle.mat_cuts.specs.Costs.{cost_at}
-use Rattle.mat_cuts.specs.Cuts.{weight_where}
-use Rattle.mat_cuts.specs.declared.cut_weight.CutWeight.{CutWeight}
-use Rattle.mat_arbor.specs.Held.{weight_around, IsCutWithin}
 
 -- ---- one weight at each member
 

@@ -4,28 +4,18 @@
 -- none enters the root, and fewer than |U| enter U, since they lie inside U and are a forest. Together these are too few.
 -- Idea, to common sets: each vertex but the root is entered, so that no arc is left to enter one twice, or the root; and the arcs join all
 -- vertices, so that they are a forest.
-use Rattle.std.proofs.Common.{◌≡◌, ◌≢◌, ℕ, suc, zero, ◌<◌, ◌≤◌, Bool, true, false, not, ◌&&◌, ◌||◌, eqb, List, [], ◌∷◌, length, get_or, ◌⊎◌, inl, inr, refl, sym, ap, ◌∙◌, subst, arith}
-use Rattle.std.proofs.lemmas.Bool.{cases_Bool, cases_eq, eqb-true, eqb-false, eq-eqb, ne_eqb, ltb-true, lt-ltb, and_parts, and_from, both_ways, false_from_ne_true, not-true, or_cases, or_left, or_right, false≢true}
-use Rattle.mat_sets.specs.Sets.{is_member, IsRising, IsSet, IsSubset, all_below, minus, without_one}
-use Rattle.mat_sets.specs.Graphs.{DirectedWalk, IsSpanningArborescence, Reaches, Walk}
+use Rattle.mat_arbor.proofs.Common.{◌≡◌, ◌≢◌, ℕ, suc, zero, ◌<◌, ◌≤◌, Bool, true, false, not, ◌&&◌, ◌||◌, eqb, List, [], ◌∷◌, length, get_or, ◌⊎◌, inl, inr, refl, sym, ap, ◌∙◌, subst, arith, cases_Bool, cases_eq, eqb-true, eqb-false, eq-eqb, ne_eqb, ltb-true, lt-ltb, and_parts, and_from, both_ways}
+use Rattle.mat_arbor.proofs.Common.{false_from_ne_true, not-true, or_cases, or_left, or_right, false≢true, is_member, IsRising, IsSet, IsSubset, all_below, minus, without_one, DirectedWalk, IsSpanningArborescence, Reaches, Walk, length-minus_subset, length-without_one, IsRising-filter}
+use Rattle.mat_arbor.proofs.Common.{IsRising-all_below, below_member, is_member-all_below, length-all_below, length-complement, IsRising-minus, IsRising-without_one, is_member-filter, is_member-head, is_member-minus, is_member-without_one, length-covered, length-one_to_one, IsForest, is_graphic}
+use Rattle.mat_arbor.proofs.Common.{IsForest-subset, AreEndsBelow, length-forest_inside, spanning_forest, EntersOnce, cap_at, head_of, is_entering_once}
 use Rattle.mat_sets.specs.Walks.{IsReachedSet, IsWalk}
 use Rattle.std.specs.List.{filter}
-use Rattle.mat_sets.proofs.Cardinalities.{length-minus_subset, length-without_one}
-use Rattle.mat_sets.proofs.Filters.{IsRising-filter}
-use Rattle.mat_sets.proofs.Ground.{IsRising-all_below, below_member, is_member-all_below, length-all_below, length-complement}
 use Rattle.mat_sets.proofs.ListParts.{is_member-tail}
-use Rattle.mat_sets.proofs.Members.{IsRising-minus, IsRising-without_one, is_member-filter, is_member-head, is_member-minus, is_member-without_one}
 use Rattle.mat_sets.proofs.Reach.{reached_set_exists}
 use Rattle.mat_sets.proofs.Walking.{Reaches-arc, Reaches-itself, Reaches-trans}
 use Rattle.mat_count.proofs.LabelClasses.{labelled_set, labelled_apart, labelled_none, labelled_from}
-use Rattle.mat_sets.proofs.OneToOne.{length-covered, length-one_to_one}
-use Rattle.mat_graphic.specs.Forests.{IsForest, is_graphic}
 use Rattle.mat_graphic.specs.Mergings.{least_merged}
 use Rattle.mat_graphic.specs.ComponentLaws.{member_within, walk_same}
-use Rattle.mat_graphic.specs.ForestLaws.{IsForest-subset}
-use Rattle.mat_graphic.proofs.ComponentCounts.{AreEndsBelow}
-use Rattle.mat_graphic.proofs.ForestSizes.{length-forest_inside, spanning_forest}
-use Rattle.mat_arbor.specs.Heads.{EntersOnce, cap_at, head_of, is_entering_once}
 
 -- ---- at most one arc into each vertex, as a matroid and in words
 

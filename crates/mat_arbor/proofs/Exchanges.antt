@@ -2,28 +2,11 @@
 -- nothing at costs and these weights together, while at most one arc enters each vertex.
 -- Idea: within a set of k vertices that the tree enters once it has k - 1 arcs, so that none comes in but for another inside; and all sets
 -- that hold the head of an arc hold the arc or are entered by it, so that only what is left of its cost tells arcs of one head apart.
-use Rattle.std.proofs.Common.{◌≡◌, ◌≢◌, ◌⊎◌, ℕ, suc, ◌<◌, ◌≤◌, Bool, true, false, not, ◌&&◌, eqb, List, [], ◌∷◌, length, inl, inr, refl, sym, ap, ◌∙◌, subst, arith, ℤ, pos, ◌+ℤ◌, ◌≤ℤ◌, ◌<ℤ◌}
-use Rattle.std.proofs.lemmas.Bool.{and_from, and_parts, both_ways, cases_Bool, cases_eq, eq-eqb, eqb-false, eqb-true, false_from_ne_true, ne_eqb, not-true, or_cases, or_left, or_right}
-use Rattle.std.proofs.lemmas.Int.{ints}
+use Rattle.mat_arbor.proofs.Common.{◌≡◌, ◌≢◌, ◌⊎◌, ℕ, suc, ◌<◌, ◌≤◌, Bool, true, false, not, ◌&&◌, eqb, List, [], ◌∷◌, length, inl, inr, refl, sym, ap, ◌∙◌, subst, arith, ℤ, pos, ◌+ℤ◌, ◌≤ℤ◌, ◌<ℤ◌, and_from, and_parts, both_ways, cases_Bool, cases_eq, eq-eqb, eqb-false, eqb-true, false_from_ne_true}
+use Rattle.mat_arbor.proofs.Common.{ne_eqb, not-true, or_cases, or_left, or_right, ints, ends_of, enters, IsRootFree, IsSpanningArborescence, is_member, with_one, without_one, IsRising, IsSubset, length-with_one, length-without_one, arborescence_enters, IsRising-filter, below_member}
+use Rattle.mat_arbor.proofs.Common.{is_member-filter, is_member-with_one, is_member-without_one, IsRising-with_one, IsRising-without_one, length-covered, cost_at, weight_on, weight_where, IsWeightedCut, ArePriced, CutWeight, IsForest, IsForest-subset, AreEndsBelow, length-forest_inside, head_of}
+use Rattle.mat_arbor.proofs.Common.{EntersOnce, held_weight, holds, weight_around}
 use Rattle.std.specs.List.{AllByRecursion, filter}
-use Rattle.mat_sets.specs.Graphs.{ends_of, enters, IsRootFree, IsSpanningArborescence}
-use Rattle.mat_sets.specs.Sets.{is_member, with_one, without_one, IsRising, IsSubset}
-use Rattle.mat_sets.proofs.Cardinalities.{length-with_one, length-without_one}
-use Rattle.mat_sets.proofs.Crossings.{arborescence_enters}
-use Rattle.mat_sets.proofs.Filters.{IsRising-filter}
-use Rattle.mat_sets.proofs.Ground.{below_member}
-use Rattle.mat_sets.proofs.Members.{is_member-filter, is_member-with_one, is_member-without_one, IsRising-with_one, IsRising-without_one}
-use Rattle.mat_sets.proofs.OneToOne.{length-covered}
-use Rattle.mat_cuts.specs.Costs.{cost_at}
-use Rattle.mat_cuts.specs.Cuts.{weight_on, weight_where, IsWeightedCut}
-use Rattle.mat_cuts.specs.Pricing.{ArePriced}
-use Rattle.mat_cuts.specs.declared.cut_weight.CutWeight.{CutWeight}
-use Rattle.mat_graphic.specs.Forests.{IsForest}
-use Rattle.mat_graphic.specs.ForestLaws.{IsForest-subset}
-use Rattle.mat_graphic.proofs.ComponentCounts.{AreEndsBelow}
-use Rattle.mat_graphic.proofs.ForestSizes.{length-forest_inside}
-use Rattle.mat_arbor.specs.Heads.{head_of, EntersOnce}
-use Rattle.mat_arbor.specs.Held.{held_weight, holds, weight_around}
 use Rattle.mat_arbor.proofs.CommonSets.{entered}
 use Rattle.mat_arbor.proofs.Slackness.{left_low, tree_is_spent, IsEnteredOnce}
 

@@ -1,14 +1,6 @@
 -- Gaps of the unit: n numbers take at most n of n + 1 gaps, and a shift that moves a free gap to the end of the unit is free.
-use Rattle.std.proofs.Common.{◌≡◌, ◌≢◌, ℕ, ◌+◌, ◌-◌, ◌*◌, ◌/◌, ◌%◌, ◌<◌, ◌≤◌, true, false, not, List, length, get_or, inl, inr, sym, ap, ◌∙◌, arith}
-use Rattle.std.proofs.lemmas.Bool.{and_parts, both_ways, cases_Bool, cases_eq, cases_lt, ltb-true, not-true}
-use Rattle.std.proofs.lemmas.Nat.{div_below, div-add-mod', mod-mul-add, mod_below}
-use Rattle.mat_sets.specs.Sets.{all_below, is_member, minus, with_one, IsSet}
-use Rattle.mat_sets.proofs.Cardinalities.{length-with_one}
-use Rattle.mat_sets.proofs.DisjointSets.{with_one-holds}
-use Rattle.mat_sets.proofs.Ground.{is_member-all_below, length-complement, IsSet-with_one}
-use Rattle.mat_sets.proofs.Members.{is_member-get_or, is_member-minus, with_one-member}
-use Rattle.mat_sets.proofs.Subsets.{IsSubset-with_one}
-use Rattle.mat_arbor.specs.Halves.{gap_at, tie_gap, unit_of, IsFreeShift}
+use Rattle.mat_arbor.proofs.Common.{◌≡◌, ◌≢◌, ℕ, ◌+◌, ◌-◌, ◌*◌, ◌/◌, ◌%◌, ◌<◌, ◌≤◌, true, false, not, List, length, get_or, inl, inr, sym, ap, ◌∙◌, arith, and_parts, both_ways, cases_Bool, cases_eq, cases_lt, ltb-true, not-true, div_below, div-add-mod', mod-mul-add, mod_below, all_below, is_member}
+use Rattle.mat_arbor.proofs.Common.{minus, with_one, IsSet, length-with_one, with_one-holds, is_member-all_below, length-complement, IsSet-with_one, is_member-get_or, is_member-minus, with_one-member, IsSubset-with_one, gap_at, tie_gap, unit_of, IsFreeShift}
 
 pub gap_below : (unit n x : ℕ) → unit ≡ unit_of n → gap_at unit x < n + 1
 gap_below unit n x is = div_below (x % unit) tie_gap (n + 1) (omega arith) (omega (arith, mod_below x unit (omega arith)))

@@ -1,18 +1,9 @@
 -- A tree that grows from the root: it starts at the root alone, an arc that leaves it makes it larger, and where none does it spans all
 -- vertices or leaves a set that no arc enters, which is what the root does not reach.
-use Rattle.std.proofs.Common.{◌≡◌, ℕ, suc, zero, ◌+◌, ◌-◌, ◌<◌, ◌≤◌, true, false, not, ◌&&◌, eqb, List, [], ◌∷◌, length, ◌⊎◌, inl, inr, refl, sym, ap, ◌∙◌, subst, arith}
-use Rattle.std.proofs.lemmas.Bool.{eqb-true, ltb-true, lt-ltb, and_parts, and_from, both_ways, false_from_ne_true, not-true, or_cases, or_right, false≢true}
-use Rattle.mat_sets.specs.Sets.{is_member, all_below, minus, with_one, IsSet}
-use Rattle.mat_sets.specs.Graphs.{DirectedWalk, IsSpanningArborescence, Reaches, ends_of, IsUnentered}
-use Rattle.mat_sets.proofs.Cardinalities.{length-with_one}
-use Rattle.mat_sets.proofs.Crossings.{walk_enters}
-use Rattle.mat_sets.proofs.Ground.{AllBelow-from_members, below_member, IsSet-all_below, IsSet-length, IsSet-minus, IsSet-nil, IsSet-with_one, IsSubset-all_below, is_member-all_below, length-complement}
-use Rattle.mat_sets.proofs.Members.{is_member-head, is_member-minus, is_member-with_one, IsRising-nil, IsRising-with_one}
-use Rattle.mat_sets.proofs.Subsets.{IsSubset-with_one, find_member}
+use Rattle.mat_arbor.proofs.Common.{◌≡◌, ℕ, suc, zero, ◌+◌, ◌-◌, ◌<◌, ◌≤◌, true, false, not, ◌&&◌, eqb, List, [], ◌∷◌, length, ◌⊎◌, inl, inr, refl, sym, ap, ◌∙◌, subst, arith, eqb-true, ltb-true, lt-ltb, and_parts, and_from, both_ways, false_from_ne_true, not-true, or_cases, or_right, false≢true}
+use Rattle.mat_arbor.proofs.Common.{is_member, all_below, minus, with_one, IsSet, DirectedWalk, IsSpanningArborescence, Reaches, ends_of, IsUnentered, length-with_one, walk_enters, AllBelow-from_members, below_member, IsSet-all_below, IsSet-length, IsSet-minus, IsSet-nil, IsSet-with_one}
+use Rattle.mat_arbor.proofs.Common.{IsSubset-all_below, is_member-all_below, length-complement, is_member-head, is_member-minus, is_member-with_one, IsRising-nil, IsRising-with_one, IsSubset-with_one, find_member, in_complement, no_member, with_one-holds, IsUnreachedSet, IsGrownTree, Leaves}
 use Rattle.mat_sets.proofs.Walking.{Reaches-arc, Reaches-itself, Reaches-subset, Reaches-trans}
-use Rattle.mat_sets.proofs.DisjointSets.{in_complement, no_member, with_one-holds}
-use Rattle.mat_arbor.specs.Arborescences.{IsUnreachedSet}
-use Rattle.mat_arbor.specs.Growing.{IsGrownTree, Leaves}
 
 stays_with_one : (a : List ℕ) (x y : ℕ) → is_member y a ≡ true → is_member y (with_one a x) ≡ true
 stays_with_one a x y m = is_member-with_one y x a ∙ or_right (eqb y x) (is_member y a) m

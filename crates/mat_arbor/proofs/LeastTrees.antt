@@ -1,21 +1,7 @@
 -- What an answer proves: a spanning arborescence is a common independent set of the two matroids, and a split proves that it costs least.
-use Rattle.std.proofs.Common.{◌≡◌, ℕ, suc, ◌<◌, true, List, [], ◌∷◌, length, refl, sym, ◌∙◌, arith}
-use Rattle.std.proofs.lemmas.Bool.{and_parts}
-use Rattle.std.proofs.lemmas.Int.{ints}
-use Rattle.mat_sets.specs.Sets.{IsSet}
-use Rattle.mat_sets.specs.SetTests.{is_set}
-use Rattle.mat_sets.specs.Weights.{◌⊕◌, ◌≼◌, negated, weight, weight_at, weight_sum}
-use Rattle.mat_sets.specs.declared.weight.Weight.{Weight}
-use Rattle.mat_sets.specs.Graphs.{IsGraph, IsSpanningArborescence, ends_of}
-use Rattle.mat_sets.proofs.Ground.{below_member}
-use Rattle.mat_sets.proofs.SetTests.{IsSet-from_test}
-use Rattle.mat_sets.proofs.WeightOrder.{pairs}
+use Rattle.mat_arbor.proofs.Common.{◌≡◌, ℕ, suc, ◌<◌, true, List, [], ◌∷◌, length, refl, sym, ◌∙◌, arith, and_parts, ints, IsSet, is_set, ◌⊕◌, ◌≼◌, negated, weight, weight_at, weight_sum, Weight, IsGraph, IsSpanningArborescence, ends_of, below_member, IsSet-from_test, pairs, is_forest, is_graphic}
+use Rattle.mat_arbor.proofs.Common.{IsForest-from_test, AreEndsBelow, EntersOnce, is_entering_once, IsSplitArborescence}
 use Rattle.mat_sets.proofs.WeightSums.{weight_sum-plus}
-use Rattle.mat_graphic.specs.Forests.{is_forest, is_graphic}
-use Rattle.mat_graphic.specs.ForestLaws.{IsForest-from_test}
-use Rattle.mat_graphic.proofs.ComponentCounts.{AreEndsBelow}
-use Rattle.mat_arbor.specs.Heads.{EntersOnce, is_entering_once}
-use Rattle.mat_arbor.specs.Arborescences.{IsSplitArborescence}
 use Rattle.mat_arbor.proofs.CommonSets.{IsSet-entering_once, EntersOnce-from_test, test_from-EntersOnce, common_reaches, arborescence_enters_once, arborescence_is_forest}
 
 module _ (vertices : ℕ) (arcs : List (ℕ × ℕ)) (root : ℕ) (g : IsGraph vertices arcs) where

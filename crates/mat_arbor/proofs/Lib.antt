@@ -1,3 +1,4 @@
+pub mod Common
 pub mod CommonSets
 pub mod GrownTrees
 pub mod LeastTrees

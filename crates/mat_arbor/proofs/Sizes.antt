@@ -1,23 +1,10 @@
 -- How large the numbers are: those of the costs, of the listed sets, of the held weights and of the two halves.
 -- Idea: all listed weights together are the cost of the tree, which has at most as many arcs as there are, and a main is a number over the unit.
-use Rattle.std.proofs.Common.{◌≡◌, ℕ, ◌+◌, ◌*◌, ◌/◌, ◌^◌, ◌<◌, ◌≤◌, Bool, true, false, List, [], ◌∷◌, ◌++◌, length, length-append, get_or, ap, ◌∙◌, arith, below_more, ℤ, pos, neg_ℤ, ◌+ℤ◌, ◌-ℤ◌, ◌≤ℤ◌, ◌<ℤ◌}
+use Rattle.mat_arbor.proofs.Common.{◌≡◌, ℕ, ◌+◌, ◌*◌, ◌/◌, ◌^◌, ◌<◌, ◌≤◌, Bool, true, false, List, [], ◌∷◌, ◌++◌, length, length-append, get_or, ap, ◌∙◌, arith, below_more, ℤ, pos, neg_ℤ, ◌+ℤ◌, ◌-ℤ◌, ◌≤ℤ◌, ◌<ℤ◌, ints, get_or_append_left, get_or_push, div_below, mul-le, enters, largest_weight}
+use Rattle.mat_arbor.proofs.Common.{IsWithin, IsWeightWithin, Weight, IsWideCost, all_weight, weight_on, weight_where, IsWeightedCut, CutWeight, split_bound, raised_value, tie_gap, weight_of, held_weight, holds, weight_around, AreHeldWeights, IsCutWithin}
 use Rattle.std.proofs.Math.Nat.{div-le_self, div-mul-le_self}
-use Rattle.std.proofs.lemmas.Int.{ints}
-use Rattle.std.proofs.lemmas.List.{get_or_append_left, get_or_push}
-use Rattle.std.proofs.lemmas.Nat.{div_below, mul-le}
 use Rattle.std.specs.List.{AllByRecursion}
-use Rattle.mat_sets.specs.Graphs.{enters}
-use Rattle.mat_sets.specs.Limits.{largest_weight}
-use Rattle.mat_sets.specs.Sums.{IsWithin}
-use Rattle.mat_sets.specs.Weights.{IsWeightWithin}
-use Rattle.mat_sets.specs.declared.weight.Weight.{Weight}
-use Rattle.mat_cuts.specs.Costs.{IsWideCost}
 use Rattle.mat_cuts.specs.Limits.{cut_bound}
-use Rattle.mat_cuts.specs.Cuts.{all_weight, weight_on, weight_where, IsWeightedCut}
-use Rattle.mat_cuts.specs.declared.cut_weight.CutWeight.{CutWeight}
-use Rattle.mat_laws.specs.Ladders.{split_bound}
-use Rattle.mat_arbor.specs.Halves.{raised_value, tie_gap, weight_of}
-use Rattle.mat_arbor.specs.Held.{held_weight, holds, weight_around, AreHeldWeights, IsCutWithin}
 use Rattle.mat_arbor.proofs.Adding.{around_within}
 use Rattle.mat_arbor.proofs.Exchanges.{around_head}
 use Rattle.mat_arbor.proofs.Values.{times_le, times_negated}

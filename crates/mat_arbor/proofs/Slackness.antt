@@ -1,20 +1,8 @@
 -- What right cuts say of their tree: its arcs are spent, and it enters each listed set once (complementary slackness).
 -- Idea: the tree enters each set at least once, and its cost pays for each set once; so nothing is left for a second time or over.
-use Rattle.std.proofs.Common.{◌≡◌, ◌≢◌, ℕ, ◌<◌, true, not, eqb, List, [], ◌∷◌, length, inl, inr, refl, sym, ap, ◌∙◌, arith, ℤ, pos, ◌+ℤ◌, ◌≤ℤ◌, ◌<ℤ◌}
-use Rattle.std.proofs.lemmas.Bool.{and_from, cases_eq, ne_eqb}
-use Rattle.std.proofs.lemmas.Int.{ints}
+use Rattle.mat_arbor.proofs.Common.{◌≡◌, ◌≢◌, ℕ, ◌<◌, true, not, eqb, List, [], ◌∷◌, length, inl, inr, refl, sym, ap, ◌∙◌, arith, ℤ, pos, ◌+ℤ◌, ◌≤ℤ◌, ◌<ℤ◌, and_from, cases_eq, ne_eqb, ints, ends_of, enters, IsSpanningArborescence, is_member, without_one, IsRising, sum_of, sum_of-le, sum_of-low}
+use Rattle.mat_arbor.proofs.Common.{sum_of-plus, sum_of-without_one, arborescence_enters, below_member, is_member-without_one, cost_at, all_weight, weight_on, weight_where, IsWeightedCut, ArePriced, CutWeight}
 use Rattle.std.specs.List.{AllByRecursion}
-use Rattle.mat_sets.specs.Graphs.{ends_of, enters, IsSpanningArborescence}
-use Rattle.mat_sets.specs.Sets.{is_member, without_one, IsRising}
-use Rattle.mat_sets.specs.Sums.{sum_of}
-use Rattle.mat_sets.proofs.Cardinalities.{sum_of-le, sum_of-low, sum_of-plus, sum_of-without_one}
-use Rattle.mat_sets.proofs.Crossings.{arborescence_enters}
-use Rattle.mat_sets.proofs.Ground.{below_member}
-use Rattle.mat_sets.proofs.Members.{is_member-without_one}
-use Rattle.mat_cuts.specs.Costs.{cost_at}
-use Rattle.mat_cuts.specs.Cuts.{all_weight, weight_on, weight_where, IsWeightedCut}
-use Rattle.mat_cuts.specs.Pricing.{ArePriced}
-use Rattle.mat_cuts.specs.declared.cut_weight.CutWeight.{CutWeight}
 use Rattle.mat_cuts.proofs.Bounds.{all_weight-le, where-sum}
 
 -- no two arcs of the tree enter the set

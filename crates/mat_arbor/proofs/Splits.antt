@@ -1,39 +1,15 @@
 -- THE THEOREM: the cheapest tree with the two halves that the listed sets give is a right answer.
 -- Idea: the values of the first half are the held weights and those of the second the rest, so that no exchange gains; and as no rest lies in
 -- the last gap of the unit, ties differ by less than the unit, so that weights compare as their values do.
-use Rattle.std.proofs.Common.{◌≡◌, ℕ, ◌+◌, ◌*◌, ◌^◌, ◌<◌, ◌≤◌, true, false, List, length, get_or, map, ap, ◌∙◌, arith, All, ℤ, pos, neg_ℤ, ◌+ℤ◌, ◌-ℤ◌, ◌≤ℤ◌, ◌<ℤ◌}
-use Rattle.std.proofs.lemmas.Bool.{and_parts}
-use Rattle.std.proofs.lemmas.Int.{ints}
-use Rattle.std.proofs.lemmas.List.{get_or-map, length-map}
-use Rattle.std.proofs.lemmas.List.Elements.{All-get_or, All-from_get_or}
-use Rattle.std.proofs.lemmas.Nat.{mul-le}
-use Rattle.mat_sets.specs.Graphs.{ends_of, IsGraph}
-use Rattle.mat_sets.specs.Limits.{largest_weight, most_elements}
-use Rattle.mat_sets.specs.Sets.{is_member, with_one, without_one, IsSet}
-use Rattle.mat_sets.specs.SetTests.{is_set}
-use Rattle.mat_sets.specs.Weights.{◌⊕◌, ◌⊖◌, ◌≼◌, negated, weight_at, zero_weight, AreWeightsWithin, IsWeightWithin}
-use Rattle.mat_sets.specs.declared.weight.Weight.{Weight}
-use Rattle.mat_sets.proofs.Cardinalities.{sum_of-high}
-use Rattle.mat_sets.proofs.Ground.{below_member, IsSet-length}
-use Rattle.mat_sets.proofs.SetTests.{IsSet-from_test}
-use Rattle.mat_sets.proofs.WeightOrder.{pairs}
+use Rattle.mat_arbor.proofs.Common.{◌≡◌, ℕ, ◌+◌, ◌*◌, ◌^◌, ◌<◌, ◌≤◌, true, false, List, length, get_or, map, ap, ◌∙◌, arith, All, ℤ, pos, neg_ℤ, ◌+ℤ◌, ◌-ℤ◌, ◌≤ℤ◌, ◌<ℤ◌, and_parts, ints, get_or-map, length-map, All-get_or, All-from_get_or, mul-le, ends_of, IsGraph, largest_weight, most_elements}
+use Rattle.mat_arbor.proofs.Common.{is_member, with_one, without_one, IsSet, is_set, ◌⊕◌, ◌⊖◌, ◌≼◌, negated, weight_at, zero_weight, AreWeightsWithin, IsWeightWithin, Weight, sum_of-high, below_member, IsSet-length, IsSet-from_test, pairs, split_bound, cost_at, IsWideCost, all_weight, ArePriced}
+use Rattle.mat_arbor.proofs.Common.{CutWeight, is_forest, is_graphic, graphic_laws, IsForest-from_test, IsRightArbor, cap_at, head_of, is_entering_once, raised_value, tie_gap, unit_of, value, weight_of, AreSecondHalves, IsFreeShift, held_weight, AreHeldWeights}
 use Rattle.mat_laws.specs.Heaviest.{IsHeaviest}
-use Rattle.mat_laws.specs.Ladders.{split_bound}
 use Rattle.mat_laws.specs.Matroids.{IsMatroid}
 use Rattle.mat_laws.proofs.LocallyHeaviest.{heaviest_from_exchanges}
 use Rattle.mat_count.specs.Labels.{caps_by, classes_by}
 use Rattle.mat_count.specs.PartitionLaws.{partition_laws}
 use Rattle.mat_count.proofs.LabelClasses.{IsPartition-classes_by, length-caps_by}
-use Rattle.mat_cuts.specs.Costs.{cost_at, IsWideCost}
-use Rattle.mat_cuts.specs.Cuts.{all_weight}
-use Rattle.mat_cuts.specs.Pricing.{ArePriced}
-use Rattle.mat_cuts.specs.declared.cut_weight.CutWeight.{CutWeight}
-use Rattle.mat_graphic.specs.Forests.{is_forest, is_graphic}
-use Rattle.mat_graphic.specs.ForestLaws.{graphic_laws, IsForest-from_test}
-use Rattle.mat_arbor.specs.Arborescences.{IsRightArbor}
-use Rattle.mat_arbor.specs.Heads.{cap_at, head_of, is_entering_once}
-use Rattle.mat_arbor.specs.Halves.{raised_value, tie_gap, unit_of, value, weight_of, AreSecondHalves, IsFreeShift}
-use Rattle.mat_arbor.specs.Held.{held_weight, AreHeldWeights}
 use Rattle.mat_arbor.specs.declared.arbor.Arbor.TheVariants.{Tree}
 use Rattle.mat_arbor.proofs.CommonSets.{EntersOnce-from_test, IsSet-entering_once}
 use Rattle.mat_arbor.proofs.Exchanges.{cost_swap, exchanged-new, held_swap, one_head}

@@ -1,16 +1,8 @@
 -- Weights as single numbers: where the ties of two weights differ by less than the unit, the order of their values is theirs.
 -- Idea: a main that is larger by 1 makes the value larger by the unit, which the ties cannot make up for.
 use mir.Syntax.{w128}
-use Rattle.std.proofs.Common.{◌≡◌, ℕ, zero, suc, ◌+◌, ◌%◌, ◌^◌, ◌<◌, List, ◌∷◌, [], ◌++◌, length, get_or, map, take, ℤ, pos, neg_ℤ, ◌+ℤ◌, ◌*ℤ◌, ◌<ℤ◌, ◌≤ℤ◌, sym, ap, ◌∙◌, arith, to_z, of_z}
+use Rattle.mat_arbor.proofs.Common.{◌≡◌, ℕ, zero, suc, ◌+◌, ◌%◌, ◌^◌, ◌<◌, List, ◌∷◌, [], ◌++◌, length, get_or, map, take, ℤ, pos, neg_ℤ, ◌+ℤ◌, ◌*ℤ◌, ◌<ℤ◌, ◌≤ℤ◌, sym, ap, ◌∙◌, arith, to_z, of_z, ints, by_lt_z, map_more, div-add-mod', largest_weight, IsWithin, ◌≼◌, Weight, value, weight_of}
 use Rattle.std.proofs.Math.IntN.{*ℤ-one, suc_ℤ-*ℤ, zero-*ℤ}
-use Rattle.std.proofs.lemmas.Int.{ints, by_lt_z}
-use Rattle.std.proofs.lemmas.List.{map_more}
-use Rattle.std.proofs.lemmas.Nat.{div-add-mod'}
-use Rattle.mat_sets.specs.Limits.{largest_weight}
-use Rattle.mat_sets.specs.Sums.{IsWithin}
-use Rattle.mat_sets.specs.Weights.{◌≼◌}
-use Rattle.mat_sets.specs.declared.weight.Weight.{Weight}
-use Rattle.mat_arbor.specs.Halves.{value, weight_of}
 
 -- ---- products
 

@@ -1,10 +1,6 @@
 -- What the loops keep that look for an arc to take, and that grow an arborescence.
-use Rattle.std.proofs.Common.{◌≡◌, ℕ, suc, ◌+◌, ◌<◌, true, false, List, [], ◌∷◌, length, get_or, eqb, inl, inr, refl, sym, ap, ◌∙◌, subst, arith, ◌⊎◌}
-use Rattle.std.proofs.lemmas.Bool.{both_ways, cases_eq, eqb-true, false≢true, or_cases}
-use Rattle.mat_sets.specs.Sets.{is_member, with_one, without_one}
-use Rattle.mat_sets.proofs.Cardinalities.{length-with_one}
-use Rattle.mat_sets.proofs.Members.{is_member-get_or, is_member-with_one, place_of_member}
-use Rattle.mat_branch.specs.Growth.{AreRefused, Grows, IsGrown, IsRefused, IsTakable}
+use Rattle.mat_branch.proofs.Common.{◌≡◌, ℕ, suc, ◌+◌, ◌<◌, true, false, List, [], ◌∷◌, length, get_or, eqb, inl, inr, refl, sym, ap, ◌∙◌, subst, arith, ◌⊎◌, both_ways, cases_eq, eqb-true, false≢true, or_cases, is_member, with_one, without_one, length-with_one, is_member-get_or, is_member-with_one}
+use Rattle.mat_branch.proofs.Common.{place_of_member, AreRefused, Grows, IsGrown, IsRefused, IsTakable}
 use Rattle.mat_branch.proofs.FlowTests.{refused-less}
 use Rattle.mat_branch.proofs.GrowthSteps.{Grows-grown, Grows-take, Grows-takable}
 

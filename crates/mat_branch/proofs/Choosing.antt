@@ -3,20 +3,12 @@
 -- reached to its other vertices, since these others are entered by more. Where a set Y that only m live arcs enter is entered by that arc,
 -- X ∩ Y is a smaller such set: it has the head of the arc and not its tail, and the number of entering arcs is submodular. One begins with
 -- the set of all vertices, which no arc enters.
-use Rattle.std.proofs.Common.{◌≡◌, ℕ, zero, suc, ◌<◌, ◌≤◌, Bool, true, false, not, ◌&&◌, leb, List, [], length, inl, inr, refl, sym, ap, ◌∙◌, subst, arith}
-use Rattle.std.proofs.lemmas.Bool.{eqb-true, lt-ltb, and_from, and_parts, both_ways, cases_Bool, cases_lt, false_from_ne_true, le-leb, leb-true, not-true, or_from, and_right}
-use Rattle.mat_sets.specs.Search.{some_subset}
-use Rattle.mat_sets.specs.Sets.{all_below, intersection, is_member, minus, union, without_one, IsRising, IsSet, IsSubset}
-use Rattle.mat_sets.proofs.Cardinalities.{length-without_one}
+use Rattle.mat_branch.proofs.Common.{◌≡◌, ℕ, zero, suc, ◌<◌, ◌≤◌, Bool, true, false, not, ◌&&◌, leb, List, [], length, inl, inr, refl, sym, ap, ◌∙◌, subst, arith, eqb-true, lt-ltb, and_from, and_parts, both_ways, cases_Bool, cases_lt, false_from_ne_true, le-leb, leb-true, not-true, or_from}
+use Rattle.mat_branch.proofs.Common.{and_right, some_subset, all_below, intersection, is_member, minus, union, without_one, IsRising, IsSet, IsSubset, length-without_one, is_member-all_below, length-all_below, below_member, AllBelow-subset, IsRising-all_below, IsSet-all_below, IsSet-intersection}
+use Rattle.mat_branch.proofs.Common.{IsSet-minus, IsSet-union, IsSubset-all_below, is_member-intersection, is_member-union, is_member-without_one, IsRising-without_one, some_from_member, some_subset_gives, some_subset_none, intersection-left, length-subset, enters, entering, IsRootFree}
+use Rattle.mat_branch.proofs.Common.{entering-more, entering-one_less, entering-same, entering-submodular, is_member-entering, AreEntered, AreEnteredOutside, IsTakable}
 use Rattle.mat_sets.proofs.DisjointSets.{no_members, minus_from, minus_parts}
 use Rattle.mat_sets.proofs.Equalities.{intersection-commute, intersection-subset}
-use Rattle.mat_sets.proofs.Ground.{is_member-all_below, length-all_below, below_member, AllBelow-subset, IsRising-all_below, IsSet-all_below, IsSet-intersection, IsSet-minus, IsSet-union, IsSubset-all_below}
-use Rattle.mat_sets.proofs.Members.{is_member-intersection, is_member-union, is_member-without_one, IsRising-without_one, some_from_member}
-use Rattle.mat_sets.proofs.Search.{some_subset_gives, some_subset_none}
-use Rattle.mat_sets.proofs.Subsets.{intersection-left, length-subset}
-use Rattle.mat_sets.specs.Graphs.{enters, entering, IsRootFree}
-use Rattle.mat_sets.proofs.Crossings.{entering-more, entering-one_less, entering-same, entering-submodular, is_member-entering}
-use Rattle.mat_branch.specs.Growth.{AreEntered, AreEnteredOutside, IsTakable}
 
 -- ---- sets that are not empty
 

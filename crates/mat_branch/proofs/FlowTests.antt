@@ -1,15 +1,8 @@
 -- What paths that share no arc tell: an arc can be taken exactly where, over the other live arcs, m paths lead from the root to its head.
-use Rattle.std.proofs.Common.{◌≡◌, ℕ, ◌+◌, ◌<◌, ◌≤◌, true, false, not, eqb, List, inl, inr, sym, ◌∙◌, subst, arith}
-use Rattle.std.proofs.lemmas.Bool.{and_from, and_left, and_parts, both_ways, cases_Bool, cases_eq, false≢true, true≢false}
-use Rattle.mat_sets.specs.Sets.{is_member, without_one, IsRising, IsSubset}
-use Rattle.mat_sets.proofs.Ground.{below_member}
-use Rattle.mat_sets.proofs.Members.{is_member-without_one, IsRising-without_one, member_from_some, some_from_member}
-use Rattle.mat_sets.proofs.Subsets.{length-subset}
+use Rattle.mat_branch.proofs.Common.{◌≡◌, ℕ, ◌+◌, ◌<◌, ◌≤◌, true, false, not, eqb, List, inl, inr, sym, ◌∙◌, subst, arith, and_from, and_left, and_parts, both_ways, cases_Bool, cases_eq, false≢true, true≢false, is_member, without_one, IsRising, IsSubset, below_member, is_member-without_one}
+use Rattle.mat_branch.proofs.Common.{IsRising-without_one, member_from_some, some_from_member, length-subset, enters, entering, entering-same, is_member-entering, IsRising-entering, AreEntered, IsRefused, TellsSpare}
 use Rattle.mat_flow.specs.ArcPaths.{AreArcPaths, IsArcCut}
-use Rattle.mat_sets.specs.Graphs.{enters, entering}
 use Rattle.mat_flow.proofs.ArcPathLaws.{paths_enter}
-use Rattle.mat_sets.proofs.Crossings.{entering-same, is_member-entering, IsRising-entering}
-use Rattle.mat_branch.specs.Growth.{AreEntered, IsRefused, TellsSpare}
 
 module _ (vertices root : ℕ) (ends : ℕ → ℕ × ℕ) where
   -- k paths to each vertex but the root

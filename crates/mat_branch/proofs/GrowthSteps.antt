@@ -1,17 +1,8 @@
 -- One arborescence grows arc by arc: what is kept while it grows, how it begins, what a takable arc adds, and that it spans when all vertices
 -- are reached.
-use Rattle.std.proofs.Common.{◌≡◌, ℕ, zero, suc, ◌+◌, ◌<◌, ◌≤◌, Bool, true, false, not, ◌&&◌, ◌||◌, eqb, List, [], ◌∷◌, length, inl, inr, refl, sym, ap, ◌∙◌, subst, arith}
-use Rattle.std.proofs.lemmas.Bool.{and_left, eq-eqb, eqb-true, false_from_ne_true, false≢true, lt-ltb, ltb-true, or_cases, or_left, or_parts, or_right}
-use Rattle.mat_sets.specs.Families.{indicator}
-use Rattle.mat_sets.specs.Graphs.{Reaches, IsSpanningArborescence}
-use Rattle.mat_sets.specs.Sets.{all_below, is_member, with_one, without_one, IsSet}
-use Rattle.mat_sets.proofs.Cardinalities.{length-with_one}
-use Rattle.mat_sets.proofs.Ground.{below_member, is_member-all_below, length-all_below, IsRising-all_below, IsSet-nil, IsSet-with_one, IsSet-without_one, IsSubset-all_below}
-use Rattle.mat_sets.proofs.Members.{is_member-with_one, is_member-without_one, only_member}
-use Rattle.mat_sets.proofs.Subsets.{larger_has, same_size_subset, IsSubset-with_one}
-use Rattle.mat_sets.proofs.Walking.{Reaches-arc, Reaches-itself, Reaches-subset, Reaches-trans}
-use Rattle.mat_sets.proofs.Crossings.{entering-same}
-use Rattle.mat_branch.specs.Growth.{AreEntered, Grows, IsGrown, IsTakable}
+use Rattle.mat_branch.proofs.Common.{◌≡◌, ℕ, zero, suc, ◌+◌, ◌<◌, ◌≤◌, Bool, true, false, not, ◌&&◌, ◌||◌, eqb, List, [], ◌∷◌, length, inl, inr, refl, sym, ap, ◌∙◌, subst, arith, and_left, eq-eqb, eqb-true, false_from_ne_true, false≢true, lt-ltb, ltb-true, or_cases, or_left, or_parts, or_right}
+use Rattle.mat_branch.proofs.Common.{indicator, Reaches, IsSpanningArborescence, all_below, is_member, with_one, without_one, IsSet, length-with_one, below_member, is_member-all_below, length-all_below, IsRising-all_below, IsSet-nil, IsSet-with_one, IsSet-without_one, IsSubset-all_below}
+use Rattle.mat_branch.proofs.Common.{is_member-with_one, is_member-without_one, only_member, larger_has, same_size_subset, IsSubset-with_one, Reaches-arc, Reaches-itself, Reaches-subset, Reaches-trans, entering-same, AreEntered, Grows, IsGrown, IsTakable}
 use Rattle.mat_branch.proofs.Choosing.{some_takable}
 
 module _ (vertices arcs root : ℕ) (ends : ℕ → ℕ × ℕ) where

@@ -1,22 +1,14 @@
 -- One arborescence after the other is packed: what is kept, that packing ends with as many as each root-free set lets in, and that no more
 -- can be packed than the arcs that enter a root-free set.
-use Rattle.std.proofs.Common.{◌≡◌, ℕ, zero, suc, ◌+◌, ◌-◌, ◌<◌, ◌≤◌, ◌⊎◌, ◌↔◌, Option, None, Some, Bool, true, false, List, [], ◌∷◌, ◌++◌, length, inl, inr, refl, sym, ap, subst, arith, length-append}
-use Rattle.std.proofs.lemmas.Bool.{cases_Bool, false≢true}
+use Rattle.mat_branch.proofs.Common.{◌≡◌, ℕ, zero, suc, ◌+◌, ◌-◌, ◌<◌, ◌≤◌, ◌⊎◌, ◌↔◌, Option, None, Some, Bool, true, false, List, [], ◌∷◌, ◌++◌, length, inl, inr, refl, sym, ap, subst, arith, length-append, cases_Bool, false≢true, indicator, multiplicity, AreDisjoint, entering}
+use Rattle.mat_branch.proofs.Common.{IsSpanningArborescence, IsRootFree, all_below, is_member, IsSet, below_member, IsRising-all_below, IsSet-all_below, IsSubset-all_below, at_most_entering, walk_enters, member_from_some, AreEntered, IsGrown, TellsSeldom, IsSeldomEnteredBy, some_seldom_entered}
 use Rattle.std.proofs.lemmas.List.Elements.{All-get_or, All-nil, All-push}
 use Rattle.std.specs.List.{All}
-use Rattle.mat_sets.specs.Families.{indicator, multiplicity, AreDisjoint}
-use Rattle.mat_sets.specs.Graphs.{entering, IsSpanningArborescence, IsRootFree}
-use Rattle.mat_sets.specs.Sets.{all_below, is_member, IsSet}
 use Rattle.mat_sets.proofs.Families.{multiplicity-append, AreDisjoint-tail}
-use Rattle.mat_sets.proofs.Ground.{below_member, IsRising-all_below, IsSet-all_below, IsSubset-all_below}
-use Rattle.mat_sets.proofs.Crossings.{at_most_entering, walk_enters}
-use Rattle.mat_sets.proofs.Members.{member_from_some}
 use Rattle.mat_branch.specs.Arborescences.{AreDisjointArborescences, IsSeldomEntered}
-use Rattle.mat_branch.specs.Growth.{AreEntered, IsGrown, TellsSeldom, IsSeldomEnteredBy}
 use Rattle.mat_branch.specs.Branches.{is_cut, HasNoArborescences, IsBranching}
 use Rattle.mat_branch.specs.declared.branching.Branch.{Branch}
 use Rattle.mat_branch.specs.declared.branching.Branch.TheVariants.{All as Branches, Cut}
-use Rattle.mat_branch.specs.Spanning.{some_seldom_entered}
 use Rattle.mat_branch.proofs.GrowthSteps.{grow, Grows-start}
 use Rattle.mat_branch.proofs.Seldom.{none_gives, some_gives}
 

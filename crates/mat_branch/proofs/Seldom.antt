@@ -1,12 +1,6 @@
 -- The search for a root-free set that fewer than k arcs enter finds one, or each such set is entered by at least k.
-use Rattle.std.proofs.Common.{◌≡◌, ℕ, true, false, not, ◌&&◌, ltb, List, length, inl, inr, ap, arith}
-use Rattle.std.proofs.lemmas.Bool.{and_from, and_parts, both_ways, cases_Bool, cases_lt, false_from_ne_true, lt-ltb, ltb-true, not-true}
-use Rattle.mat_sets.specs.Graphs.{entering}
-use Rattle.mat_sets.specs.Sets.{all_below, is_member}
-use Rattle.mat_sets.proofs.Ground.{AllBelow-subset, IsRising-all_below, IsSet-all_below, IsSubset-all_below}
-use Rattle.mat_sets.proofs.Search.{some_subset_gives, some_subset_none}
-use Rattle.mat_branch.specs.Growth.{AreEntered, IsSeldomEnteredBy}
-use Rattle.mat_branch.specs.Spanning.{is_seldom_entered, some_seldom_entered}
+use Rattle.mat_branch.proofs.Common.{◌≡◌, ℕ, true, false, not, ◌&&◌, ltb, List, length, inl, inr, ap, arith, and_from, and_parts, both_ways, cases_Bool, cases_lt, false_from_ne_true, lt-ltb, ltb-true, not-true, entering, all_below, is_member, AllBelow-subset, IsRising-all_below, IsSet-all_below}
+use Rattle.mat_branch.proofs.Common.{IsSubset-all_below, some_subset_gives, some_subset_none, AreEntered, IsSeldomEnteredBy, is_seldom_entered, some_seldom_entered}
 
 module _ (vertices root : ℕ) (ends : ℕ → ℕ × ℕ) (live : List ℕ) (k : ℕ) where
   -- what the search finds

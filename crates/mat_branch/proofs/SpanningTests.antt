@@ -1,16 +1,7 @@
 -- The test of spanning arborescences is exact: where each root-free set is entered, an arborescence grows in the arcs, so the root reaches each
 -- vertex along them; and a walk from the root to a member of such a set enters it.
-use Rattle.std.proofs.Common.{◌≡◌, ◌↔◌, ℕ, suc, ◌+◌, ◌<◌, ◌≤◌, Bool, true, false, not, ◌&&◌, eqb, List, [], ◌∷◌, length, refl, sym, ap, ◌∙◌, arith}
-use Rattle.std.proofs.lemmas.Bool.{and_from, and_parts, eq-eqb, eqb-true, not-true, and_right}
-use Rattle.mat_sets.specs.Families.{indicator}
-use Rattle.mat_sets.specs.Graphs.{entering, IsSpanningArborescence}
-use Rattle.mat_sets.specs.Sets.{is_member, IsSet}
-use Rattle.mat_sets.proofs.Crossings.{is_member-entering, walk_enters}
-use Rattle.mat_sets.proofs.Ground.{below_member}
-use Rattle.mat_sets.proofs.Walking.{Reaches-subset}
-use Rattle.mat_sets.proofs.Members.{member_from_some, some_from_member}
-use Rattle.mat_branch.specs.Growth.{AreEntered, IsSeldomEnteredBy}
-use Rattle.mat_branch.specs.Spanning.{is_spanning_arborescence, some_seldom_entered}
+use Rattle.mat_branch.proofs.Common.{◌≡◌, ◌↔◌, ℕ, suc, ◌+◌, ◌<◌, ◌≤◌, Bool, true, false, not, ◌&&◌, eqb, List, [], ◌∷◌, length, refl, sym, ap, ◌∙◌, arith, and_from, and_parts, eq-eqb, eqb-true, not-true, and_right, indicator, entering, IsSpanningArborescence, is_member, IsSet, is_member-entering}
+use Rattle.mat_branch.proofs.Common.{walk_enters, below_member, Reaches-subset, member_from_some, some_from_member, AreEntered, IsSeldomEnteredBy, is_spanning_arborescence, some_seldom_entered}
 use Rattle.mat_branch.proofs.GrowthSteps.{grow, Grows-start}
 use Rattle.mat_branch.proofs.Seldom.{found_none, found_some, none_gives}
 

@@ -1,18 +1,7 @@
 -- What it is that an answer was read behind its command, and that it is read again.
-use Rattle.std.proofs.Common.{◌≡◌, Bool, true, false, cond, ℕ, ◌≤◌, List, [], ◌∷◌, ◌++◌, length, Result, Ok, refl, ap, sym, subst, ◌∙◌}
-use Rattle.std.specs.Prelude.{bytes_eq}
+use Rattle.mat_cert.proofs.Common.{◌≡◌, Bool, true, false, cond, ℕ, ◌≤◌, List, [], ◌∷◌, ◌++◌, length, Result, Ok, refl, ap, sym, subst, ◌∙◌, bytes_eq, and_from, and_parts, bytes_eq-Decides, IsSet, Line, is_word, end_line, WordsLeft, LinesLeft, AreLeft, found, found-same, Fault, Certificate}
+use Rattle.mat_cert.proofs.Common.{AreRangedSets, IsRanged, certificate_lines, header_line, version_line}
 use Rattle.std.specs.List.{All, list_all}
-use Rattle.std.proofs.lemmas.Bool.{and_from, and_parts}
-use Rattle.std.proofs.lemmas.Slice.Eq.{bytes_eq-Decides}
-use Rattle.mat_sets.specs.Sets.{IsSet}
-use Rattle.mat_words.specs.Lines.{Line}
-use Rattle.mat_words.specs.Words.{is_word}
-use Rattle.mat_words.specs.Writing.{end_line}
-use Rattle.mat_words.specs.Cursors.{WordsLeft, LinesLeft}
-use Rattle.mat_words.proofs.LineReading.{AreLeft}
-use Rattle.mat_words.proofs.ReadingSteps.{found, found-same}
-use Rattle.mat_cert.specs.Faults.{Fault}
-use Rattle.mat_cert.specs.Certificates.{Certificate, AreRangedSets, IsRanged, certificate_lines, header_line, version_line}
 
 -- an answer was read from the words behind its command on
 pub record IsCommandRead (command : List ℕ) (words : WordsLeft) (lines : LinesLeft) (answer : Certificate × LinesLeft) : Type 0 where

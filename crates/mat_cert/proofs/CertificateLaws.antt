@@ -1,28 +1,12 @@
 -- Whole certificates: a text that is read is the text of the certificate that was read, which is in range, and the text of a certificate in
 -- range is read as that certificate.
-use Rattle.std.proofs.Common.{◌≡◌, ℕ, pos, true, cond, List, [], ◌∷◌, ◌++◌, length, map, ◌⊎◌, inl, inr, Result, Ok, Err, IfOk, refl, sym, ap}
-use Rattle.std.proofs.Common.{subst, ◌∙◌}
-use Rattle.std.specs.Prelude.{codes, bytes_eq}
+use Rattle.mat_cert.proofs.Common.{◌≡◌, ℕ, pos, true, cond, List, [], ◌∷◌, ◌++◌, length, map, ◌⊎◌, inl, inr, Result, Ok, Err, IfOk, refl, sym, ap, subst, ◌∙◌, codes, bytes_eq, Line, lines_of, text_of, is_word, numeral, numerals, weight_word, end_line, members_line, weights_line, WordsLeft}
+use Rattle.mat_cert.proofs.Common.{LinesLeft, found-same, bind_found, numerals_words, weights_words, same_text, AreLeft, keyed_again, Gives, Certificate, IsRanged, certificate_lines, certificate_text, header_line, last_rung, version_line, level_line, option_lines, sets_lines, rungs_lines}
+use Rattle.mat_cert.proofs.Common.{plain_rung_lines, priced_rung_lines, CertRefusal, Fault, version_at, answer_of_command, answer_at, certificate_at, read_of}
 use Rattle.std.specs.List.{list_all}
-use Rattle.mat_words.specs.Lines.{Line, lines_of, text_of}
-use Rattle.mat_words.specs.Words.{is_word}
-use Rattle.mat_words.specs.Numbers.{numeral, numerals}
-use Rattle.mat_words.specs.Weights.{weight_word}
-use Rattle.mat_words.specs.Writing.{end_line, members_line, weights_line}
-use Rattle.mat_words.specs.Cursors.{WordsLeft, LinesLeft}
 use Rattle.mat_words.specs.Reading as any_text
-use Rattle.mat_words.proofs.ReadingSteps.{found-same, bind_found}
-use Rattle.mat_words.proofs.WordReading.{numerals_words, weights_words}
-use Rattle.mat_words.proofs.LineLemmas.{same_text}
-use Rattle.mat_words.proofs.LineReading.{AreLeft, keyed_again}
-use Rattle.mat_words.specs.Reading.{Gives}
 use Rattle.mat_words.specs.declared.refusal.Refusal.TheVariants as refusals
 use Rattle.mat_cert.specs.Certificates as certificates
-use Rattle.mat_cert.specs.Certificates.{Certificate, IsRanged, certificate_lines, certificate_text, header_line, last_rung, version_line}
-use Rattle.mat_cert.specs.Certificates.{level_line, option_lines, sets_lines, rungs_lines, plain_rung_lines, priced_rung_lines}
-use Rattle.mat_cert.specs.Faults.{CertRefusal, Fault}
-use Rattle.mat_cert.specs.LineReading.{version_at}
-use Rattle.mat_cert.specs.Reading.{answer_of_command, answer_at, certificate_at, read_of}
 use Rattle.mat_cert.proofs.WordLaws.{word_read}
 use Rattle.mat_cert.proofs.LineLaws.{IsReadAgain, line_read, version_found, version_again, end_found, end_again, closed_found, closed_again}
 use Rattle.mat_cert.proofs.AnswerReading.{IsCommandRead, by_word, words_append}

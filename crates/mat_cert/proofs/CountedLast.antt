@@ -1,24 +1,9 @@
 -- The words of a line are counted before they are read, and what this gives is the same where they are read first: the items that were read
 -- are as many as the words of a line that has no others.
-use Rattle.std.proofs.Common.{◌≡◌, ◌≢◌, ℕ, ◌+◌, ◌<◌, pos, neg_ℤ, List, [], length, map, Result, Ok, Err, refl, sym, ap}
-use Rattle.std.proofs.Common.{◌∙◌, arith}
-use Rattle.std.specs.Prelude.{codes}
-use Rattle.std.proofs.lemmas.Bool.{ne_eqb, eq-eqb}
-use Rattle.std.proofs.lemmas.List.{length-append, length-map}
-use Rattle.mat_sets.specs.Limits.{largest_number}
-use Rattle.mat_sets.specs.declared.weight.Weight.{Weight}
-use Rattle.mat_words.specs.Cursors.{WordsLeft, LinesLeft}
-use Rattle.mat_words.specs.Numbers.{numeral}
-use Rattle.mat_words.specs.Reading.{Fails}
+use Rattle.mat_cert.proofs.Common.{◌≡◌, ◌≢◌, ℕ, ◌+◌, ◌<◌, pos, neg_ℤ, List, [], length, map, Result, Ok, Err, refl, sym, ap, ◌∙◌, arith, codes, ne_eqb, eq-eqb, length-append, length-map, largest_number, Weight, WordsLeft, LinesLeft, numeral, Fails, ◌>>=◌, weight_word, weights_found, WrongCount}
+use Rattle.mat_cert.proofs.Common.{CertRefusal, Fault, has_words, weights_at, members_from, keyed_at, counted_at, counted_set_at, part_at, all_members_at, all_weights_at}
 use Rattle.mat_words.specs.Reading as any_text
-use Rattle.mat_words.specs.Steps.{◌>>=◌}
-use Rattle.mat_words.specs.Weights.{weight_word}
-use Rattle.mat_words.proofs.WordReading.{weights_found}
 use Rattle.mat_words.specs.declared.refusal.Refusal.TheVariants as refusals
-use Rattle.mat_cert.specs.declared.refusal.CertKind.TheVariants.{WrongCount}
-use Rattle.mat_cert.specs.Faults.{CertRefusal, Fault}
-use Rattle.mat_cert.specs.LineReading.{has_words, weights_at, members_from, keyed_at, counted_at, counted_set_at, part_at}
-use Rattle.mat_cert.specs.LineReading.{all_members_at, all_weights_at}
 use Rattle.mat_cert.proofs.WordLaws.{set_members_found}
 
 -- ---- the count of a line, with what is read of its words

@@ -1,17 +1,6 @@
 -- The headers of certificates: what is read is spelled so, and what is spelled so is read.
-use Rattle.std.proofs.Common.{◌≡◌, ℕ, ◌≤◌, ◌<◌, pos, neg_ℤ, [], ◌∷◌, ◌++◌, Ok, refl, ap, subst, ◌∙◌, arith}
-use Rattle.std.specs.Prelude.{codes}
-use Rattle.mat_sets.specs.declared.weight.Weight.{Weight}
-use Rattle.mat_words.specs.Numbers.{numeral, numerals}
-use Rattle.mat_words.specs.Weights.{weight_word}
-use Rattle.mat_words.specs.Lines.{Line}
-use Rattle.mat_words.specs.Cursors.{WordsLeft}
-use Rattle.mat_words.proofs.ReadingSteps.{found-same, bind_found}
-use Rattle.mat_words.proofs.WordReading.{size_again, below_again, weight_at_again}
-use Rattle.mat_cert.specs.Limits.{most_colours, most_rows, most_columns}
-use Rattle.mat_sets.specs.Limits.{most_vertices, most_elements, largest_number, most_matroids, most_trees}
-use Rattle.mat_cert.specs.Limits.{most_levels}
-use Rattle.mat_cert.specs.Certificates.{IsCertificateWeight, IsVertexCount, AreRangedNone}
+use Rattle.mat_cert.proofs.Common.{◌≡◌, ℕ, ◌≤◌, ◌<◌, pos, neg_ℤ, [], ◌∷◌, ◌++◌, Ok, refl, ap, subst, ◌∙◌, arith, codes, Weight, numeral, numerals, weight_word, Line, WordsLeft, found-same, bind_found, size_again, below_again, weight_at_again, most_colours, most_rows, most_columns, most_vertices}
+use Rattle.mat_cert.proofs.Common.{most_elements, largest_number, most_matroids, most_trees, most_levels, IsCertificateWeight, IsVertexCount, AreRangedNone}
 use Rattle.mat_cert.specs.HeaderReading.{ladder_header_at, union_header_at, never_header_at, trees_header_at, none_at}
 use Rattle.mat_cert.specs.HeaderReading.{classes_header_at, entered_header_at, rainbow_header_at, assign_header_at}
 use Rattle.mat_cert.proofs.WordLaws.{has_words_found, has_words_again, whole_line, then_words, fixed_found, fixed_again, size_read, below_read, weight_read}

@@ -1,21 +1,7 @@
 -- Ladders, and the answers that are made of them: what is read is spelled so, and what is spelled so is read.
-use Rattle.std.proofs.Common.{◌≡◌, ℕ, suc, ◌+◌, ◌≤◌, List, [], ◌∷◌, ◌++◌, length, Result, Ok, Some, slice_get}
-use Rattle.std.proofs.Common.{refl, ap, subst, ◌∙◌, arith}
-use Rattle.std.specs.Prelude.{Option, codes}
-use Rattle.mat_words.specs.Lines.{Line}
-use Rattle.mat_words.specs.Numbers.{numerals}
-use Rattle.mat_words.specs.Writing.{end_line, members_line}
-use Rattle.mat_words.specs.Cursors.{WordsLeft, LinesLeft}
-use Rattle.mat_words.proofs.ReadingSteps.{found-same, bind_found}
-use Rattle.mat_words.proofs.LineReading.{AreLeft}
-use Rattle.mat_cert.specs.declared.answer.PlainRung.{PlainRung}
-use Rattle.mat_cert.specs.declared.answer.PricedRung.{PricedRung}
-use Rattle.mat_cert.specs.Faults.{Fault}
-use Rattle.mat_sets.specs.Limits.{most_elements}
-use Rattle.mat_cert.specs.Certificates.{Certificate, intersect, best, rainbow, assign, AreRangedRungs, IsRangedLadder, IsRangedPlainRung}
-use Rattle.mat_cert.specs.Certificates.{IsRangedPricedRung, IsRangedRainbow, IsRangedAssignment, IsRangedOption, is_short_of_tree, last_rung}
-use Rattle.mat_cert.specs.Certificates.{plain_rung_lines, priced_rung_lines, rungs_lines, option_lines}
-use Rattle.mat_cert.specs.Reading.{plain_rung_at, priced_rung_at, rungs_at, ladder_at, intersect_at, best_at, rainbow_at, assign_at}
+use Rattle.mat_cert.proofs.Common.{◌≡◌, ℕ, suc, ◌+◌, ◌≤◌, List, [], ◌∷◌, ◌++◌, length, Result, Ok, Some, slice_get, refl, ap, subst, ◌∙◌, arith, Option, codes, Line, numerals, end_line, members_line, WordsLeft, LinesLeft, found-same, bind_found, AreLeft, PlainRung, PricedRung, Fault, most_elements}
+use Rattle.mat_cert.proofs.Common.{Certificate, intersect, best, rainbow, assign, AreRangedRungs, IsRangedLadder, IsRangedPlainRung, IsRangedPricedRung, IsRangedRainbow, IsRangedAssignment, IsRangedOption, is_short_of_tree, last_rung, plain_rung_lines, priced_rung_lines, rungs_lines, option_lines}
+use Rattle.mat_cert.proofs.Common.{plain_rung_at, priced_rung_at, rungs_at, ladder_at, intersect_at, best_at, rainbow_at, assign_at}
 use Rattle.mat_cert.proofs.LineLaws.{IsReadAgain, set_found, set_again, option_found, option_again}
 use Rattle.mat_cert.proofs.RungLaws.{plain_rung_found, plain_rung_again, priced_rung_found, priced_rung_again, AreRungsRead, rungs_found}
 use Rattle.mat_cert.proofs.RungLaws.{rungs_again}

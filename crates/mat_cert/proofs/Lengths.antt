@@ -1,35 +1,15 @@
 -- How long texts are. A numeral of at most k digits has at most k + 1 bytes, a line of at most m words of at most b bytes at most
 -- m * (b + 1) + 1 with its byte 10, and a certificate in range at most 2009 lines of at most 502 words of at most 65 bytes.
-use Rattle.std.proofs.Common.{◌≡◌, ℕ, zero, suc, Bool, true, false, cond, ◌+◌, ◌*◌, ◌^◌, ◌<◌, ◌≤◌}
-use Rattle.std.proofs.Common.{codes, List, [], ◌∷◌, ◌++◌}
-use Rattle.std.proofs.Common.{length, map, arith, refl, None, Some, slice_get, ℤ, pos, negsuc, neg_ℤ, ◌<ℤ◌}
-use Rattle.std.specs.Prelude.{Option, nat_lt}
+use Rattle.mat_cert.proofs.Common.{◌≡◌, ℕ, zero, suc, Bool, true, false, cond, ◌+◌, ◌*◌, ◌^◌, ◌<◌, ◌≤◌, codes, List, [], ◌∷◌, ◌++◌, length, map, arith, refl, None, Some, slice_get, ℤ, pos, negsuc, neg_ℤ, ◌<ℤ◌, Option, nat_lt, ints, length-digits_of-le, length-append, length-map, slice_get_within}
+use Rattle.mat_cert.proofs.Common.{All-append, All-cons, All-head, All-map, All-nil, All-tail, All-weaker, largest_number, most_elements, AllBelow, IsSet, Weight, Line, text_of, numeral, numerals, weight_word, end_line, members_line, weights_line, LevelLine, PlainRung, PricedRung, certificate_limit}
+use Rattle.mat_cert.proofs.Common.{AreRangedRungs, AreRangedTrees, Certificate, IsCertificateWeight, IsPrintedWeight, IsRanged, IsRangedLadder, IsRangedLevel, IsRangedOption, IsRangedPart, IsRangedPlainRung, IsRangedPricedRung, is_short_of_tree, certificate_text, intersect, best, version_line}
+use Rattle.mat_cert.proofs.Common.{header_line, last_rung, rung_line, plain_rung_lines, priced_rung_lines, rungs_lines, level_line, sets_lines, option_lines}
 use Rattle.std.specs.Ordering.{int_eq}
 use Rattle.std.specs.Int.Digits.{digits_of}
 use Rattle.std.specs.List.{All, join_with_byte}
 use Rattle.std.proofs.Math.Nat.{mul-le-mul, suc-mul}
-use Rattle.std.proofs.lemmas.Int.{ints}
-use Rattle.std.proofs.lemmas.Int.Digits.{length-digits_of-le}
-use Rattle.std.proofs.lemmas.List.{length-append, length-map}
-use Rattle.std.proofs.lemmas.Option.{slice_get_within}
-use Rattle.std.proofs.lemmas.List.Elements.{All-append, All-cons, All-head, All-map, All-nil, All-tail, All-weaker}
-use Rattle.mat_sets.specs.Limits.{largest_number, most_elements}
-use Rattle.mat_sets.specs.Sets.{AllBelow, IsSet}
 use Rattle.mat_sets.specs.Sums.{IsWithin}
-use Rattle.mat_sets.specs.declared.weight.Weight.{Weight}
 use Rattle.mat_sets.proofs.Ground.{length-complement}
-use Rattle.mat_words.specs.Lines.{Line, text_of}
-use Rattle.mat_words.specs.Numbers.{numeral, numerals}
-use Rattle.mat_words.specs.Weights.{weight_word}
-use Rattle.mat_words.specs.Writing.{end_line, members_line, weights_line}
-use Rattle.mat_cert.specs.declared.answer.LevelLine.{LevelLine}
-use Rattle.mat_cert.specs.declared.answer.PlainRung.{PlainRung}
-use Rattle.mat_cert.specs.declared.answer.PricedRung.{PricedRung}
-use Rattle.mat_cert.specs.Limits.{certificate_limit}
-use Rattle.mat_cert.specs.Certificates.{AreRangedRungs, AreRangedTrees, Certificate, IsCertificateWeight, IsPrintedWeight, IsRanged, IsRangedLadder, IsRangedLevel}
-use Rattle.mat_cert.specs.Certificates.{IsRangedOption, IsRangedPart, IsRangedPlainRung, IsRangedPricedRung, is_short_of_tree}
-use Rattle.mat_cert.specs.Certificates.{certificate_text, intersect, best, version_line, header_line, last_rung, rung_line, plain_rung_lines}
-use Rattle.mat_cert.specs.Certificates.{priced_rung_lines, rungs_lines, level_line, sets_lines, option_lines}
 use Rattle.mat_cert.specs.Certificates as certificates
 use Rattle.mat_cert.proofs.LineTexts.{opening}
 

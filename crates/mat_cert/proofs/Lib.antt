@@ -1,3 +1,4 @@
+pub mod Common
 pub mod LineTexts
 pub mod Lengths
 pub mod PrintedLengths

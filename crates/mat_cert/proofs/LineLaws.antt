@@ -1,35 +1,11 @@
 -- The lines of a certificate: what is read is spelled so, and what is spelled so is read.
-use Rattle.std.proofs.Common.{◌≡◌, ℕ, pos, neg_ℤ, Bool, true, false, List, [], ◌∷◌, ◌++◌, length, map, Result, Ok}
-use Rattle.std.proofs.Common.{Some, None, refl, sym, ap, subst, ◌∙◌}
-use Rattle.std.specs.Prelude.{Option, codes}
+use Rattle.mat_cert.proofs.Common.{◌≡◌, ℕ, pos, neg_ℤ, Bool, true, false, List, [], ◌∷◌, ◌++◌, length, map, Result, Ok, Some, None, refl, sym, ap, subst, ◌∙◌, Option, codes, and_from, length-map, nil_from_length, IsSet, Weight, is_word, numerals, numeral, weight_word, Line, end_line, members_line}
+use Rattle.mat_cert.proofs.Common.{weights_line, WordsLeft, LinesLeft, ◌>>=◌, is_closed, numeral_word, found-same, bind_found, test_found, told_found, weight_at_again, weights_found, weights_again, numerals_words, weights_words, AreLeft, keyed_found, keyed_again, known_line, closed_left, LevelLine}
+use Rattle.mat_cert.proofs.Common.{AfterEnd, Fault, kind_of, largest_number, IsCertificateWeight, IsRangedLevel, IsRangedOption, IsRangedPart, level_line, option_lines, rung_line, version_line, fixed_at, has_words, number_at, weight_at, weights_at, members_from, keyed_at, counted_at, version_at}
+use Rattle.mat_cert.proofs.Common.{set_at, option_at, counted_set_at, part_at, level_at, end_at, closed_at, rung_at}
 use Rattle.std.specs.List.{list_all}
-use Rattle.std.proofs.lemmas.Bool.{and_from}
-use Rattle.std.proofs.lemmas.List.{length-map, nil_from_length}
-use Rattle.mat_sets.specs.Sets.{IsSet}
-use Rattle.mat_sets.specs.declared.weight.Weight.{Weight}
-use Rattle.mat_words.specs.Words.{is_word}
-use Rattle.mat_words.specs.Numbers.{numerals, numeral}
-use Rattle.mat_words.specs.Weights.{weight_word}
-use Rattle.mat_words.specs.Lines.{Line}
-use Rattle.mat_words.specs.Writing.{end_line, members_line, weights_line}
-use Rattle.mat_words.specs.Cursors.{WordsLeft, LinesLeft}
-use Rattle.mat_words.specs.Steps.{◌>>=◌}
-use Rattle.mat_words.specs.Reading.{is_closed}
 use Rattle.mat_words.specs.Reading as any_text
-use Rattle.mat_words.proofs.NumberLemmas.{numeral_word}
 use Rattle.mat_words.proofs.WeightLemmas.{weight_word-word}
-use Rattle.mat_words.proofs.ReadingSteps.{found-same, bind_found, test_found, told_found}
-use Rattle.mat_words.proofs.WordReading.{weight_at_again, weights_found, weights_again, numerals_words, weights_words}
-use Rattle.mat_words.proofs.LineReading.{AreLeft, keyed_found, keyed_again, known_line, closed_left}
-use Rattle.mat_cert.specs.declared.answer.LevelLine.{LevelLine}
-use Rattle.mat_cert.specs.declared.refusal.CertKind.TheVariants.{AfterEnd}
-use Rattle.mat_cert.specs.Faults.{Fault, kind_of}
-use Rattle.mat_sets.specs.Limits.{largest_number}
-use Rattle.mat_cert.specs.Certificates.{IsCertificateWeight, IsRangedLevel, IsRangedOption, IsRangedPart, level_line, option_lines, rung_line}
-use Rattle.mat_cert.specs.Certificates.{version_line}
-use Rattle.mat_cert.specs.LineReading.{fixed_at, has_words, number_at, weight_at, weights_at, members_from, keyed_at, counted_at}
-use Rattle.mat_cert.specs.LineReading.{version_at, set_at, option_at, counted_set_at, part_at, level_at, end_at, closed_at}
-use Rattle.mat_cert.specs.Reading.{rung_at}
 use Rattle.mat_cert.proofs.WordLaws.{has_words_found, has_words_again, whole_line, then_words, fixed_found, fixed_again, exact_found, exact_again}
 use Rattle.mat_cert.proofs.WordLaws.{weight_read, set_members_found, set_members_again}
 

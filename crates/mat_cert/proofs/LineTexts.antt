@@ -1,10 +1,5 @@
 -- The text of the lines of rungs, one rung after the other, and of a certificate, part by part.
-use Rattle.std.proofs.Common.{◌≡◌, ℕ, ◌+◌, ◌<◌, suc, List, [], ◌∷◌, ◌++◌, length, map, take, get_or, sym, ap}
-use Rattle.std.proofs.Common.{◌∙◌, arith, zero-add}
-use Rattle.std.proofs.lemmas.List.{append_assoc, append-nil, map-append, take_more, length-take}
-use Rattle.mat_words.specs.Lines.{Line, text_of}
-use Rattle.mat_words.proofs.LineLemmas.{text_of-append}
-use Rattle.mat_cert.specs.Certificates.{version_line, header_line, rungs_lines}
+use Rattle.mat_cert.proofs.Common.{◌≡◌, ℕ, ◌+◌, ◌<◌, suc, List, [], ◌∷◌, ◌++◌, length, map, take, get_or, sym, ap, ◌∙◌, arith, zero-add, append_assoc, append-nil, map-append, take_more, length-take, Line, text_of, text_of-append, version_line, header_line, rungs_lines}
 
 -- the lines of one more rung
 rungs_lines_push : {R : Type 0} (lines_of_rung : ℕ → R → List Line) (k : ℕ) (rungs : List R) (rung : R)

@@ -1,18 +1,7 @@
 -- Items that stand in a row, each on a line: what is read is spelled so, and what is spelled so is read.
-use Rattle.std.proofs.Common.{◌≡◌, ℕ, List, [], ◌∷◌, ◌++◌, length, map, Result, Ok, true}
+use Rattle.mat_cert.proofs.Common.{◌≡◌, ℕ, List, [], ◌∷◌, ◌++◌, length, map, Result, Ok, true, IsSet, Line, is_word, members_line, LinesLeft, repeat_at, AreLeft, LevelLine, Fault, IsRangedLevel, level_line, sets_lines, set_at, sets_at, level_at}
 use Rattle.std.specs.List.{All}
-use Rattle.mat_sets.specs.Sets.{IsSet}
-use Rattle.mat_words.specs.Lines.{Line}
-use Rattle.mat_words.specs.Words.{is_word}
-use Rattle.mat_words.specs.Writing.{members_line}
-use Rattle.mat_words.specs.Cursors.{LinesLeft}
-use Rattle.mat_words.specs.Steps.{repeat_at}
-use Rattle.mat_words.proofs.LineReading.{AreLeft}
 use Rattle.mat_words.proofs.ItemLines as any_items
-use Rattle.mat_cert.specs.declared.answer.LevelLine.{LevelLine}
-use Rattle.mat_cert.specs.Faults.{Fault}
-use Rattle.mat_cert.specs.Certificates.{IsRangedLevel, level_line, sets_lines}
-use Rattle.mat_cert.specs.LineReading.{set_at, sets_at, level_at}
 use Rattle.mat_cert.proofs.LineLaws.{IsRead, IsReadAgain, set_found, set_again, level_found, level_again}
 
 -- as many items were read, each of which is in range

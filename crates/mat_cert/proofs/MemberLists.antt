@@ -1,18 +1,7 @@
 -- The members of a set on a line, as a loop reads them: the members so far, in front of those that are still read, are those that are read in all.
-use Rattle.std.proofs.Common.{◌≡◌, ℕ, suc, ◌+◌, ◌<◌, ◌≤◌, pos, true, false, List, [], ◌∷◌}
-use Rattle.std.proofs.Common.{◌++◌, length, Result, Ok, Err, refl, sym, ap, ◌∙◌, arith, append_assoc}
-use Rattle.std.specs.Prelude.{nat_lt}
-use Rattle.std.proofs.lemmas.Bool.{ne_eqb}
-use Rattle.std.proofs.lemmas.List.{append-nil}
-use Rattle.mat_sets.specs.Sets.{AllBelow, with_one}
-use Rattle.mat_words.specs.Numbers.{numeral}
-use Rattle.mat_words.specs.Cursors.{WordsLeft}
-use Rattle.mat_words.specs.Steps.{◌>>=◌}
-use Rattle.mat_cert.specs.declared.refusal.CertKind.TheVariants.{NotRising}
-use Rattle.mat_words.specs.Reading.{Fails}
+use Rattle.mat_cert.proofs.Common.{◌≡◌, ℕ, suc, ◌+◌, ◌<◌, ◌≤◌, pos, true, false, List, [], ◌∷◌, ◌++◌, length, Result, Ok, Err, refl, sym, ap, ◌∙◌, arith, append_assoc, nat_lt, ne_eqb, append-nil, AllBelow, with_one, numeral, WordsLeft, ◌>>=◌, NotRising, Fails, CertRefusal, Fault, below_at}
+use Rattle.mat_cert.proofs.Common.{members_from}
 use Rattle.mat_words.specs.declared.refusal.Refusal.TheVariants as refusals
-use Rattle.mat_cert.specs.Faults.{CertRefusal, Fault}
-use Rattle.mat_cert.specs.LineReading.{below_at, members_from}
 use Rattle.mat_cert.proofs.WordLaws.{below_read}
 
 abbrev ok : {A : Type 0} → A → Result A Fault

@@ -1,23 +1,8 @@
 -- Unions, packings and covers: what is read is spelled so, and what is spelled so is read.
-use Rattle.std.proofs.Common.{◌≡◌, ℕ, ◌≤◌, ◌<◌, ℤ, pos, Bool, true, false, eqb, Some, List, [], ◌∷◌, ◌++◌, length, map, Ok, refl, ap, sym, subst}
-use Rattle.std.proofs.Common.{◌∙◌, arith}
-use Rattle.std.specs.Prelude.{Option, codes, bytes_eq, nat_lt}
-use Rattle.std.proofs.lemmas.Slice.Eq.{bytes_eq-Decides}
-use Rattle.mat_sets.specs.declared.weight.Weight.{Weight}
-use Rattle.mat_words.specs.Numbers.{number_of, numeral, numerals}
-use Rattle.mat_words.specs.Weights.{weight_word}
-use Rattle.mat_words.specs.Writing.{end_line, members_line}
-use Rattle.mat_words.specs.Cursors.{WordsLeft, LinesLeft}
+use Rattle.mat_cert.proofs.Common.{◌≡◌, ℕ, ◌≤◌, ◌<◌, ℤ, pos, Bool, true, false, eqb, Some, List, [], ◌∷◌, ◌++◌, length, map, Ok, refl, ap, sym, subst, ◌∙◌, arith, Option, codes, bytes_eq, nat_lt, bytes_eq-Decides, Weight, number_of, numeral, numerals, weight_word, end_line, members_line, WordsLeft}
+use Rattle.mat_cert.proofs.Common.{LinesLeft, read_again, bind_found, size_again, AreLeft, LevelLine, most_elements, most_matroids, Certificate, union_of, pack_any, pack, cover_never, cover, IsRangedUnion, IsRangedPacking, IsRangedCover, IsRangedOption, level_line, sets_lines, option_lines}
+use Rattle.mat_cert.proofs.Common.{union_at, bases_at, pack_at, never_at, covering_at, cover_at}
 use Rattle.mat_words.specs.Reading as any_text
-use Rattle.mat_words.proofs.NumberLemmas.{read_again}
-use Rattle.mat_words.proofs.ReadingSteps.{bind_found}
-use Rattle.mat_words.proofs.WordReading.{size_again}
-use Rattle.mat_words.proofs.LineReading.{AreLeft}
-use Rattle.mat_cert.specs.declared.answer.LevelLine.{LevelLine}
-use Rattle.mat_sets.specs.Limits.{most_elements, most_matroids}
-use Rattle.mat_cert.specs.Certificates.{Certificate, union_of, pack_any, pack, cover_never, cover, IsRangedUnion, IsRangedPacking}
-use Rattle.mat_cert.specs.Certificates.{IsRangedCover, IsRangedOption, level_line, sets_lines, option_lines}
-use Rattle.mat_cert.specs.Reading.{union_at, bases_at, pack_at, never_at, covering_at, cover_at}
 use Rattle.mat_cert.proofs.WordLaws.{has_words_found, has_words_again, whole_line, then_words, word_read, size_read}
 use Rattle.mat_cert.proofs.LineLaws.{IsReadAgain, set_found, set_again, option_found, option_again}
 use Rattle.mat_cert.proofs.ListLaws.{sets_found, sets_again, levels_found, levels_again}

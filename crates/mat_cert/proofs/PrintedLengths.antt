@@ -1,28 +1,11 @@
 -- How long a text is that is printed. Rung k on at most 500 elements has a line of k numbers of at most 3 bytes and, with a split, two lines
 -- of at most 500 weights of at most 45 bytes: at most 46118 + 4 * k bytes in all. With e rungs these are at most 46118 * e + 2 * (e * e).
-use Rattle.std.proofs.Common.{◌≡◌, ℕ, zero, suc, ◌+◌, ◌*◌, ◌^◌, ◌<◌, ◌≤◌, codes, List, []}
-use Rattle.std.proofs.Common.{◌∷◌, ◌++◌, length, map}
-use Rattle.std.proofs.Common.{ap, subst, ◌∙◌, arith, pos, refl, Some, slice_get}
+use Rattle.mat_cert.proofs.Common.{◌≡◌, ℕ, zero, suc, ◌+◌, ◌*◌, ◌^◌, ◌<◌, ◌≤◌, codes, List, [], ◌∷◌, ◌++◌, length, map, ap, subst, ◌∙◌, arith, pos, refl, Some, slice_get, length-digits_of-le, length-append, length-map, slice_get_within, get_or_from_slice_get, All-cons, All-get_or, All-map, All-nil}
+use Rattle.mat_cert.proofs.Common.{All-weaker, most_elements, AllBelow, Weight, Line, text_of, numeral, numerals, weight_word, end_line, members_line, weights_line, text_of-append, PlainRung, PricedRung, AreRangedRungs, Certificate, IsPrinted, IsPrintedRung, IsPrintedWeight, IsRanged, IsRangedRung}
+use Rattle.mat_cert.proofs.Common.{IsRangedLadder, IsRangedPlainRung, IsRangedPricedRung, is_short_of_tree, certificate_text, intersect, best, last_rung, rung_line, plain_rung_lines, priced_rung_lines, rungs_lines, option_lines}
 use Rattle.std.specs.Int.Digits.{digits_of}
 use Rattle.std.specs.List.{All, join_with_byte}
 use Rattle.std.proofs.Math.Nat.{mul-le-mul, suc-mul, mul-suc}
-use Rattle.std.proofs.lemmas.Int.Digits.{length-digits_of-le}
-use Rattle.std.proofs.lemmas.List.{length-append, length-map}
-use Rattle.std.proofs.lemmas.Option.{slice_get_within, get_or_from_slice_get}
-use Rattle.std.proofs.lemmas.List.Elements.{All-cons, All-get_or, All-map, All-nil, All-weaker}
-use Rattle.mat_sets.specs.Limits.{most_elements}
-use Rattle.mat_sets.specs.Sets.{AllBelow}
-use Rattle.mat_sets.specs.declared.weight.Weight.{Weight}
-use Rattle.mat_words.specs.Lines.{Line, text_of}
-use Rattle.mat_words.specs.Numbers.{numeral, numerals}
-use Rattle.mat_words.specs.Weights.{weight_word}
-use Rattle.mat_words.specs.Writing.{end_line, members_line, weights_line}
-use Rattle.mat_words.proofs.LineLemmas.{text_of-append}
-use Rattle.mat_cert.specs.declared.answer.PlainRung.{PlainRung}
-use Rattle.mat_cert.specs.declared.answer.PricedRung.{PricedRung}
-use Rattle.mat_cert.specs.Certificates.{AreRangedRungs, Certificate, IsPrinted, IsPrintedRung, IsPrintedWeight, IsRanged, IsRangedRung}
-use Rattle.mat_cert.specs.Certificates.{IsRangedLadder, IsRangedPlainRung, IsRangedPricedRung, is_short_of_tree, certificate_text, intersect, best}
-use Rattle.mat_cert.specs.Certificates.{last_rung, rung_line, plain_rung_lines, priced_rung_lines, rungs_lines, option_lines}
 use Rattle.mat_cert.specs.Certificates as certificates
 use Rattle.mat_cert.proofs.LineTexts.{opening}
 use Rattle.mat_cert.proofs.Lengths.{IsShortHeader, IsShortHere, length-join_with_byte, length-missing, length-plain, length-printed}

@@ -1,19 +1,6 @@
 -- Rungs: what is read is spelled so, and what is spelled so is read.
-use Rattle.std.proofs.Common.{◌≡◌, ℕ, zero, suc, ◌+◌, List, [], ◌∷◌, ◌++◌, length, Result, Ok, Some, slice_get}
-use Rattle.std.proofs.Common.{refl, sym, ap, subst, arith, append_assoc}
-use Rattle.std.specs.Prelude.{codes}
-use Rattle.mat_words.specs.Lines.{Line}
-use Rattle.mat_words.specs.Writing.{members_line, weights_line}
-use Rattle.mat_words.specs.Cursors.{LinesLeft}
-use Rattle.mat_words.specs.Steps.{◌>>=◌}
-use Rattle.mat_cert.specs.declared.answer.PlainRung.{PlainRung}
-use Rattle.mat_cert.specs.declared.answer.PricedRung.{PricedRung}
-use Rattle.mat_cert.specs.Certificates.{IsRangedPlainRung, IsRangedPricedRung, plain_rung_lines, priced_rung_lines, rungs_lines}
-use Rattle.mat_cert.specs.Faults.{Fault}
-use Rattle.mat_cert.specs.LineReading.{counted_set_at, part_at}
-use Rattle.mat_cert.specs.Reading.{rung_at, plain_rung_at, priced_rung_at, rungs_at}
-use Rattle.mat_words.proofs.ReadingSteps.{found-same, bind_found}
-use Rattle.mat_words.proofs.LineReading.{AreLeft}
+use Rattle.mat_cert.proofs.Common.{◌≡◌, ℕ, zero, suc, ◌+◌, List, [], ◌∷◌, ◌++◌, length, Result, Ok, Some, slice_get, refl, sym, ap, subst, arith, append_assoc, codes, Line, members_line, weights_line, LinesLeft, ◌>>=◌, PlainRung, PricedRung, IsRangedPlainRung, IsRangedPricedRung, plain_rung_lines}
+use Rattle.mat_cert.proofs.Common.{priced_rung_lines, rungs_lines, Fault, counted_set_at, part_at, rung_at, plain_rung_at, priced_rung_at, rungs_at, found-same, bind_found, AreLeft}
 use Rattle.mat_cert.proofs.LineLaws.{IsRead, IsReadAgain, counted_set_found, counted_set_again, part_found, part_again, rung_found, rung_again}
 
 pub plain_rung_found : (n k : ℕ) (p : LinesLeft) (rung : PlainRung) (q : LinesLeft) → plain_rung_at n k p ≡ Ok (rung, q)

@@ -1,14 +1,7 @@
 -- Rungs that are read one after the other, as a loop reads them: those so far, in front of those that are still read, are
 -- those that are read in all.
-use Rattle.std.proofs.Common.{◌≡◌, ℕ, suc, ◌-◌, ◌+◌, ◌≤◌, ◌<◌, List, [], ◌∷◌, ◌++◌, Result, Ok, Err}
-use Rattle.std.proofs.Common.{refl, sym, ap, ◌∙◌, arith}
-use Rattle.std.proofs.lemmas.List.{append-nil}
-use Rattle.mat_words.specs.Cursors.{LinesLeft}
-use Rattle.mat_words.proofs.Repeats.{with_front, with_front-cons}
-use Rattle.mat_words.specs.Reading.{Fails}
+use Rattle.mat_cert.proofs.Common.{◌≡◌, ℕ, suc, ◌-◌, ◌+◌, ◌≤◌, ◌<◌, List, [], ◌∷◌, ◌++◌, Result, Ok, Err, refl, sym, ap, ◌∙◌, arith, append-nil, LinesLeft, with_front, with_front-cons, Fails, CertRefusal, Fault, rungs_at}
 use Rattle.mat_words.specs.declared.refusal.Refusal.TheVariants as refusals
-use Rattle.mat_cert.specs.Faults.{CertRefusal, Fault}
-use Rattle.mat_cert.specs.Reading.{rungs_at}
 
 -- rungs i and on are still read, behind those in front
 abbrev pub rungs_left : {R : Type 0} → (ℕ → LinesLeft → Result (R × LinesLeft) Fault) → List R → ℕ → ℕ → LinesLeft

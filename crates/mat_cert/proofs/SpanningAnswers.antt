@@ -1,25 +1,8 @@
 -- Spanning trees and arborescences, and what excludes them: what is read is spelled so, and what is spelled so is read.
-use Rattle.std.proofs.Common.{◌≡◌, ℕ, ◌≤◌, pos, neg_ℤ, eqb, cond, List, [], ◌∷◌, ◌++◌, length, Result, Ok, Err, refl, ap, sym, subst}
-use Rattle.std.proofs.Common.{◌∙◌, arith}
-use Rattle.std.specs.Prelude.{codes, bytes_eq}
-use Rattle.mat_sets.specs.Sets.{IsSet}
-use Rattle.mat_sets.specs.declared.weight.Weight.{Weight}
-use Rattle.mat_words.specs.Lines.{Line}
-use Rattle.mat_words.specs.Numbers.{numeral, numerals}
-use Rattle.mat_words.specs.Weights.{weight_word}
-use Rattle.mat_words.specs.Writing.{end_line, members_line, weights_line}
-use Rattle.mat_words.specs.Cursors.{WordsLeft, LinesLeft}
-use Rattle.mat_words.specs.Steps.{◌>>=◌}
+use Rattle.mat_cert.proofs.Common.{◌≡◌, ℕ, ◌≤◌, pos, neg_ℤ, eqb, cond, List, [], ◌∷◌, ◌++◌, length, Result, Ok, Err, refl, ap, sym, subst, ◌∙◌, arith, codes, bytes_eq, IsSet, Weight, Line, numeral, numerals, weight_word, end_line, members_line, weights_line, WordsLeft, LinesLeft, ◌>>=◌, found-same}
+use Rattle.mat_cert.proofs.Common.{bind_found, size_again, weight_at_again, AreLeft, UnknownWord, Fault, largest_number, most_vertices, most_elements, most_trees, Certificate, trees, trees_none, arbor, unreached, disjoint, disjoint_none, AreRangedTrees, AreRangedSets, AreRangedNone}
+use Rattle.mat_cert.proofs.Common.{IsRangedArborescence, IsRangedUnreached, sets_lines, found_trees_at, classes_at, trees_at, arbor_at, unreached_at, arborescence_at, entered_at, disjoint_at}
 use Rattle.mat_words.specs.Reading as any_text
-use Rattle.mat_words.proofs.ReadingSteps.{found-same, bind_found}
-use Rattle.mat_words.proofs.WordReading.{size_again, weight_at_again}
-use Rattle.mat_words.proofs.LineReading.{AreLeft}
-use Rattle.mat_cert.specs.declared.refusal.CertKind.TheVariants.{UnknownWord}
-use Rattle.mat_cert.specs.Faults.{Fault}
-use Rattle.mat_sets.specs.Limits.{largest_number, most_vertices, most_elements, most_trees}
-use Rattle.mat_cert.specs.Certificates.{Certificate, trees, trees_none, arbor, unreached, disjoint, disjoint_none, AreRangedTrees, AreRangedSets}
-use Rattle.mat_cert.specs.Certificates.{AreRangedNone, IsRangedArborescence, IsRangedUnreached, sets_lines}
-use Rattle.mat_cert.specs.Reading.{found_trees_at, classes_at, trees_at, arbor_at, unreached_at, arborescence_at, entered_at, disjoint_at}
 use Rattle.mat_cert.proofs.WordLaws.{has_words_found, has_words_again, whole_line, then_words, word_read, size_read, weight_read}
 use Rattle.mat_cert.proofs.LineLaws.{IsReadAgain, set_found, set_again, part_found, part_again}
 use Rattle.mat_cert.proofs.ListLaws.{sets_found, sets_again}

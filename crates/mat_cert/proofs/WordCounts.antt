@@ -1,10 +1,6 @@
 -- How many words are left of a line, as a loop cuts off one after the other.
-use Rattle.std.proofs.Common.{◌≡◌, ℕ, ◌+◌, ◌<◌, ◌≤◌, true, false, eqb, List, length, sym, ◌∙◌, arith}
-use Rattle.std.specs.Prelude.{Option, Some, None}
+use Rattle.mat_cert.proofs.Common.{◌≡◌, ℕ, ◌+◌, ◌<◌, ◌≤◌, true, false, eqb, List, length, sym, ◌∙◌, arith, Option, Some, None, ne_eqb, eq-eqb, parts_left, parts_of, is_space}
 use Rattle.std.specs.Borrow.{Bor}
-use Rattle.std.proofs.lemmas.Bool.{ne_eqb, eq-eqb}
-use Rattle.mat_words.specs.Cursors.{parts_left}
-use Rattle.mat_words.specs.Words.{parts_of, is_space}
 use Rattle.mat_words.proofs.Splitting.{some_parts}
 
 -- too few words stand on the line

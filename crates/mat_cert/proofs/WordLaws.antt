@@ -1,24 +1,8 @@
 -- The words of a line of a certificate: what is read is spelled so, and what is spelled so is read.
-use Rattle.std.proofs.Common.{◌≡◌, ℕ, suc, ◌≤◌, ℤ, pos, neg_ℤ, true, false, cond, eqb, List}
-use Rattle.std.proofs.Common.{[], ◌∷◌, ◌++◌, length, Ok, Err, refl, sym, ap, subst, ◌∙◌, arith}
-use Rattle.std.specs.Prelude.{◌≤ℤ◌, nat_lt, bytes_eq}
-use Rattle.std.proofs.lemmas.Int.{ints}
-use Rattle.std.proofs.lemmas.Bool.{eqb-true, eq-eqb}
-use Rattle.std.proofs.lemmas.List.{append-nil, length-append}
-use Rattle.std.proofs.lemmas.Slice.Eq.{bytes_eq-Decides}
-use Rattle.mat_sets.specs.Sets.{IsSet, RisesFrom, AllBelow}
-use Rattle.mat_sets.specs.declared.weight.Weight.{Weight}
-use Rattle.mat_words.specs.Numbers.{numerals, numeral}
-use Rattle.mat_words.specs.Cursors.{WordsLeft}
-use Rattle.mat_words.specs.Steps.{◌>>=◌}
+use Rattle.mat_cert.proofs.Common.{◌≡◌, ℕ, suc, ◌≤◌, ℤ, pos, neg_ℤ, true, false, cond, eqb, List, [], ◌∷◌, ◌++◌, length, Ok, Err, refl, sym, ap, subst, ◌∙◌, arith, ◌≤ℤ◌, nat_lt, bytes_eq, ints, eqb-true, eq-eqb, append-nil, length-append, bytes_eq-Decides, IsSet, RisesFrom, AllBelow, Weight}
+use Rattle.mat_cert.proofs.Common.{numerals, numeral, WordsLeft, ◌>>=◌, found-same, bind_found, test_found, refused_found, told_found, told_again, IsSizeRead, IsBelowRead, IsWeightRead, word_found, number_found, number_at_again, size_found, below_found, below_again, weight_found, kind_of, NotRising}
+use Rattle.mat_cert.proofs.Common.{UnknownWord, WrongCount, largest_number, word_at, fixed_at, has_words, number_at, size_at, below_at, weight_at, members_from}
 use Rattle.mat_words.specs.Reading as any_text
-use Rattle.mat_words.proofs.ReadingSteps.{found-same, bind_found, test_found, refused_found, told_found, told_again}
-use Rattle.mat_words.proofs.WordReading.{IsSizeRead, IsBelowRead, IsWeightRead, word_found, number_found, number_at_again, size_found}
-use Rattle.mat_words.proofs.WordReading.{below_found, below_again, weight_found}
-use Rattle.mat_cert.specs.Faults.{kind_of}
-use Rattle.mat_cert.specs.declared.refusal.CertKind.TheVariants.{NotRising, UnknownWord, WrongCount}
-use Rattle.mat_sets.specs.Limits.{largest_number}
-use Rattle.mat_cert.specs.LineReading.{word_at, fixed_at, has_words, number_at, size_at, below_at, weight_at, members_from}
 
 -- ---- counted words
 

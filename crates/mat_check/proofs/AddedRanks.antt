@@ -1,6 +1,5 @@
 -- Adding the ranks of a set in matroids one after the other.
-use Rattle.std.proofs.Common.{◌≡◌, ℕ, ◌+◌, Bool, List, map, drop}
-use Rattle.mat_union.specs.Unions.{ranks_sum}
+use Rattle.mat_check.proofs.Common.{◌≡◌, ℕ, ◌+◌, Bool, List, map, drop, ranks_sum}
 
 module _ {M : Type 0} (indep : M → List ℕ → Bool) (matroids : List M) (X : List ℕ) where
   -- those of the first i are added

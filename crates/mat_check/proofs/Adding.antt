@@ -1,10 +1,5 @@
 -- Looking for an element that can be added: the elements are tried in their order, and the set is unchanged until one is found.
-use Rattle.std.proofs.Common.{◌≡◌, ℕ, ◌+◌, ◌<◌, Bool, true, false, not, ◌&&◌, List, if◌then◌else◌}
-use Rattle.std.proofs.Common.{sym, ◌∙◌, ap}
-use Rattle.mat_sets.specs.Sets.{is_member, with_one}
-use Rattle.mat_sets.specs.Search.{some_below}
-use Rattle.mat_sets.proofs.Search.{some_below_from, some_below-next, some_below-zero}
-use Rattle.mat_laws.specs.Searches.{has_addable}
+use Rattle.mat_check.proofs.Common.{◌≡◌, ℕ, ◌+◌, ◌<◌, Bool, true, false, not, ◌&&◌, List, if◌then◌else◌, sym, ◌∙◌, ap, is_member, with_one, some_below, some_below_from, some_below-next, some_below-zero, has_addable}
 
 -- whether e can be added
 abbrev pub can_add : (List ℕ → Bool) → List ℕ → ℕ → Bool

@@ -1,20 +1,6 @@
 -- The forms of answers that fit a problem: what holds of each of these forms holds of every answer that fits, and a right one does.
-use Rattle.std.proofs.Common.{◌≡◌, ◌↔◌, ◌==◌, ℕ, true, List, [], ◌∷◌, length, Option, None, refl, arith}
-use Rattle.std.proofs.lemmas.Bool.{eqb-true, false≢true}
-use Rattle.mat_sets.specs.declared.weight.Weight.{Weight}
-use Rattle.mat_any.specs.Trees.{Tree}
-use Rattle.mat_problem.specs.Validity.{IsValid}
-use Rattle.mat_problem.specs.Instances.{Instance, pair, list, graph, rooted, coloured, table}
-use Rattle.mat_problem.specs.Soundness.{IsSoundInstance}
-use Rattle.mat_cert.specs.Certificates.{Certificate, IsRanged, intersect, best, union_of, pack_any, pack, cover_never, cover, trees, trees_none}
-use Rattle.mat_cert.specs.Certificates.{arbor, unreached, disjoint, disjoint_none, rainbow, assign}
-use Rattle.mat_cert.specs.declared.answer.LevelLine.{LevelLine}
-use Rattle.mat_cert.specs.declared.answer.PlainRung.{PlainRung}
-use Rattle.mat_cert.specs.declared.answer.PricedRung.{PricedRung}
-use Rattle.mat_right.specs.Right.{IsRight}
-use Rattle.mat_check.specs.AnswerClauses.{failure_of}
-use Rattle.mat_check.specs.Fitting.{fits}
-use Rattle.mat_check.specs.Optimal.{IsOptimal}
+use Rattle.mat_check.proofs.Common.{◌≡◌, ◌↔◌, ◌==◌, ℕ, true, List, [], ◌∷◌, length, Option, None, refl, arith, eqb-true, false≢true, Weight, Tree, IsValid, Instance, pair, list, graph, rooted, coloured, table, IsSoundInstance, Certificate, IsRanged, intersect, best, union_of, pack_any, pack}
+use Rattle.mat_check.proofs.Common.{cover_never, cover, trees, trees_none, arbor, unreached, disjoint, disjoint_none, rainbow, assign, LevelLine, PlainRung, PricedRung, IsRight, failure_of, fits, IsOptimal}
 
 -- ---- what is shown of each form
 

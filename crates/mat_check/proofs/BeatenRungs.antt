@@ -1,12 +1,5 @@
 -- What is told of each rung whether it is beaten, one rung after the other.
-use Rattle.std.proofs.Common.{◌≡◌, ℕ, Bool, false, List, [], ◌∷◌, ◌++◌, length, Some, inl, inr, sym, ap, ◌∙◌, subst, arith}
-use Rattle.std.specs.Prelude.{slice_get}
-use Rattle.std.proofs.lemmas.Bool.{cases_lt}
-use Rattle.std.proofs.lemmas.List.{get_or_append_left, get_or_push, length_push}
-use Rattle.std.proofs.lemmas.Option.{same_Some}
-use Rattle.mat_cert.specs.declared.answer.PricedRung.{PricedRung}
-use Rattle.mat_check.specs.BeatenRungs.{AreJudged, IsJudged}
-use Rattle.mat_check.specs.declared.ladder.halves.Side.{Side}
+use Rattle.mat_check.proofs.Common.{◌≡◌, ℕ, Bool, false, List, [], ◌∷◌, ◌++◌, length, Some, inl, inr, sym, ap, ◌∙◌, subst, arith, slice_get, cases_lt, get_or_append_left, get_or_push, length_push, same_Some, PricedRung, AreJudged, IsJudged, Side}
 
 module _ (n : ℕ) (p : List ℕ → Bool) (side : Side) (rungs : List PricedRung) where
   pub none_told : AreJudged n p side rungs []

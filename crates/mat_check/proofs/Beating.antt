@@ -1,16 +1,8 @@
 -- A heaviest independent set of the same size tells whether an independent set is beaten, and no set has more elements than the rank.
-use Rattle.std.proofs.Common.{◌≡◌, ℕ, ◌<◌, Bool, true, List, [], length, get_or, inl, inr, sym, subst, ap, ◌∙◌, arith}
-use Rattle.std.proofs.lemmas.Bool.{cases_Bool, both_ways}
-use Rattle.std.proofs.lemmas.List.{get_or-map, length-map}
-use Rattle.mat_sets.specs.Weights.{is_below, weight_sum, zero_weight}
-use Rattle.mat_sets.specs.declared.weight.Weight.{Weight}
-use Rattle.mat_sets.proofs.WeightOrder.{not_below_gives, not_below_from, at_most_trans}
-use Rattle.mat_laws.specs.Matroids.{IsMatroid}
+use Rattle.mat_check.proofs.Common.{◌≡◌, ℕ, ◌<◌, Bool, true, List, [], length, get_or, inl, inr, sym, subst, ap, ◌∙◌, arith, cases_Bool, both_ways, get_or-map, length-map, is_below, weight_sum, zero_weight, Weight, not_below_gives, not_below_from, at_most_trans, IsMatroid, is_beaten}
+use Rattle.mat_check.proofs.Common.{IsHeaviest-not_beaten, not_beaten-IsHeaviest, AreHeaviestWeights}
 use Rattle.mat_laws.specs.Heaviest.{IsHeaviest}
-use Rattle.mat_laws.specs.Searches.{is_beaten}
 use Rattle.mat_laws.proofs.RankLaws.{length-independent}
-use Rattle.mat_laws.proofs.Searches.{IsHeaviest-not_beaten, not_beaten-IsHeaviest}
-use Rattle.mat_greedy.specs.Greedy.{AreHeaviestWeights}
 
 -- an independent set is beaten exactly where a heaviest set of its size is heavier
 heaviest_beats : {n : ℕ} {p : List ℕ → Bool} → IsMatroid n p → (w : ℕ → Weight) (X Y : List ℕ) → p X ≡ true

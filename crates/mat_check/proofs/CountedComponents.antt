@@ -1,9 +1,5 @@
 -- The number of components is that of the vertices which are the least of theirs, as the search for components tells these.
-use Rattle.std.proofs.Common.{◌≡◌, ℕ, ◌<◌, eqb, List, length, get_or, sym, ap, ◌∙◌, arith}
-use Rattle.mat_sets.specs.Search.{those_below}
-use Rattle.mat_sets.specs.Sets.{IsRising}
-use Rattle.mat_sets.proofs.Search.{length-those_below}
-use Rattle.mat_graphic.specs.Forests.{IsLeastReached, least_reached, number_of_components}
+use Rattle.mat_check.proofs.Common.{◌≡◌, ℕ, ◌<◌, eqb, List, length, get_or, sym, ap, ◌∙◌, arith, those_below, IsRising, length-those_below, IsLeastReached, least_reached, number_of_components}
 use Rattle.mat_graphic.proofs.ComponentCounts.{IsLeastReached-unique, least_reached-merged}
 
 pub components_counted : (vertices : ℕ) (ends : ℕ → ℕ × ℕ) (X least : List ℕ) → IsRising X → length least ≡ vertices

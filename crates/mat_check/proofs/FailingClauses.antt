@@ -1,12 +1,5 @@
 -- The first failure of joined lists of clauses, and of a clause for each element.
-use Rattle.std.proofs.Common.{◌≡◌, ℕ, zero, suc, ◌+◌, ◌<◌, ◌⊎◌, true, false, List, [], ◌∷◌, ◌++◌}
-use Rattle.std.proofs.Common.{map}
-use Rattle.std.proofs.Common.{Some, None, inl, inr, refl, sym, subst, ap, ◌∙◌, arith}
-use Rattle.std.proofs.lemmas.Bool.{cases_Bool, cond-true, cond-false}
-use Rattle.std.proofs.lemmas.Option.{none-some}
-use Rattle.mat_sets.specs.Sets.{all_below}
-use Rattle.mat_sets.proofs.Ground.{map-all_below_more, map-all_below_none}
-use Rattle.mat_check.specs.Clauses.{Clause, Failure, first_failure}
+use Rattle.mat_check.proofs.Common.{◌≡◌, ℕ, zero, suc, ◌+◌, ◌<◌, ◌⊎◌, true, false, List, [], ◌∷◌, ◌++◌, map, Some, None, inl, inr, refl, sym, subst, ap, ◌∙◌, arith, cases_Bool, cond-true, cond-false, none-some, all_below, map-all_below_more, map-all_below_none, Clause, Failure, first_failure}
 
 pub first_of_holding : (clause : Clause) (clauses : List Clause) → clause.holds ≡ true
     → first_failure (clause ∷ clauses) ≡ first_failure clauses

@@ -1,14 +1,7 @@
 -- The levels of an answer are those of the distinct weights, falling, exactly where their weights are these, one by one.
-use Rattle.std.proofs.Common.{◌≡◌, ℕ, suc, ◌<◌, List, [], ◌∷◌, length, map, get_or, refl, sym, ap, ◌∙◌, subst}
-use Rattle.std.proofs.lemmas.List.{length-map, same_lists, get_or_default}
-use Rattle.mat_sets.specs.FallingWeights.{falling_weights}
-use Rattle.mat_sets.specs.Weights.{weight_at, zero_weight}
-use Rattle.mat_sets.specs.declared.weight.Weight.{Weight}
-use Rattle.mat_union.specs.RightUnions.{level_at, AreFalling}
+use Rattle.mat_check.proofs.Common.{◌≡◌, ℕ, suc, ◌<◌, List, [], ◌∷◌, length, map, get_or, refl, sym, ap, ◌∙◌, subst, length-map, same_lists, get_or_default, falling_weights, weight_at, zero_weight, Weight, level_at, AreFalling, LevelLine, level_of}
 use Rattle.mat_union.specs.declared.best.Level.{Level}
 use Rattle.mat_union.proofs.FallingLevels.{are_falling, falling_are, level_weight, level_weights}
-use Rattle.mat_cert.specs.declared.answer.LevelLine.{LevelLine}
-use Rattle.mat_right.specs.Right.{level_of}
 
 -- a level by its number; past the end no weight and no cut
 abbrev pub line_at : List LevelLine → ℕ → LevelLine

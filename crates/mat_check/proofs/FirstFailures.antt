@@ -1,11 +1,6 @@
 -- No clause fails exactly where all hold, clause by clause and rung by rung.
-use Rattle.std.proofs.Common.{◌≡◌, ℕ, zero, suc, ◌+◌, true, List, [], ◌∷◌, ◌++◌, map}
-use Rattle.std.proofs.Common.{Some, None, slice_get, eqb, inl, inr, refl, sym, subst, ◌∙◌, arith}
-use Rattle.std.proofs.lemmas.Bool.{cases_Bool, cond-true, cond-false, eqb-true, or_cases, or_right}
-use Rattle.std.proofs.lemmas.Option.{none-some, same_Some}
-use Rattle.mat_sets.specs.Sets.{is_member}
-use Rattle.mat_sets.proofs.Members.{is_member-head}
-use Rattle.mat_check.specs.Clauses.{Clause, first_failure, numbered_clauses}
+use Rattle.mat_check.proofs.Common.{◌≡◌, ℕ, zero, suc, ◌+◌, true, List, [], ◌∷◌, ◌++◌, map, Some, None, slice_get, eqb, inl, inr, refl, sym, subst, ◌∙◌, arith, cases_Bool, cond-true, cond-false, eqb-true, or_cases, or_right, none-some, same_Some, is_member, is_member-head, Clause, first_failure}
+use Rattle.mat_check.proofs.Common.{numbered_clauses}
 
 -- each clause holds
 abbrev pub AllHold : List Clause → Type 0

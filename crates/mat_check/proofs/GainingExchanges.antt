@@ -1,29 +1,17 @@
 -- Which exchanges gain is told by rows and by the least weight; and none gains exactly where no independent set of as many
 -- elements is heavier.
-use Rattle.std.proofs.Common.{◌≡◌, ℕ, ◌+◌, ◌<◌, ◌≤◌, Bool, true, false, not, cond, ◌&&◌, ◌||◌, if◌then◌else◌, eqb, List, [], ◌∷◌, length, get_or, take}
-use Rattle.std.proofs.Common.{filter, Option, Some, None, inl, inr, refl, sym, ap, ◌∙◌, subst, arith, take_all}
+use Rattle.mat_check.proofs.Common.{◌≡◌, ℕ, ◌+◌, ◌<◌, ◌≤◌, Bool, true, false, not, cond, ◌&&◌, ◌||◌, if◌then◌else◌, eqb, List, [], ◌∷◌, length, get_or, take, filter, Option, Some, None, inl, inr, refl, sym, ap, ◌∙◌, subst, arith, take_all, and_from, and_parts, and_right, both_ways, cases_Bool}
+use Rattle.mat_check.proofs.Common.{cond-true, cond-false, eq-eqb, false≢true, false_from_ne_true, not-true, or_cases, or_left, or_right, true_from_ne_false, some_below, is_member, with_one, without_one, AllBelow, ◌≺◌, ◌≼◌, is_below, Weight, below_member, AllBelow-filter, is_member-head}
+use Rattle.mat_check.proofs.Common.{is_member-with_one, place_of_member, some_below_none, below_from, below_gives, not_below_from, not_below_gives, IsMatroid, is_beaten, IsHeaviest-not_beaten, not_beaten-IsHeaviest, exchange_gains, has_lighter, exceeds_least, is_gain, least_with}
+use Rattle.mat_check.proofs.Common.{IsLeastWeightOrNone}
 use Rattle.std.specs.List.{list_any}
-use Rattle.std.proofs.lemmas.Bool.{and_from, and_parts, and_right, both_ways, cases_Bool, cond-true, cond-false, eq-eqb, false≢true}
-use Rattle.std.proofs.lemmas.Bool.{false_from_ne_true, not-true, or_cases, or_left, or_right, true_from_ne_false}
 use Rattle.std.proofs.lemmas.Int.{ints}
 use Rattle.std.proofs.lemmas.List.Folds.{list_any_at, list_any_more}
-use Rattle.mat_sets.specs.Search.{some_below}
-use Rattle.mat_sets.specs.Sets.{is_member, with_one, without_one, AllBelow}
-use Rattle.mat_sets.specs.Weights.{◌≺◌, ◌≼◌, is_below}
-use Rattle.mat_sets.specs.declared.weight.Weight.{Weight}
-use Rattle.mat_sets.proofs.Ground.{below_member, AllBelow-filter}
-use Rattle.mat_sets.proofs.Members.{is_member-head, is_member-with_one, place_of_member}
-use Rattle.mat_sets.proofs.Search.{some_below_none}
 use Rattle.mat_sets.proofs.Truths.{or_none}
-use Rattle.mat_sets.proofs.WeightOrder.{below_from, below_gives, not_below_from, not_below_gives}
 use Rattle.mat_laws.specs.declared.exchange.Exchange.{Exchange}
 use Rattle.mat_laws.specs.Exchanges.{row_of}
-use Rattle.mat_laws.specs.Matroids.{IsMatroid}
-use Rattle.mat_laws.specs.Searches.{is_beaten}
 use Rattle.mat_laws.proofs.LocallyHeaviest.{exchange_gains_nothing, heaviest_from_exchanges}
 use Rattle.mat_laws.proofs.Rows.{exchanged, row-with}
-use Rattle.mat_laws.proofs.Searches.{IsHeaviest-not_beaten, not_beaten-IsHeaviest}
-use Rattle.mat_check.specs.Exchanges.{exchange_gains, has_lighter, exceeds_least, is_gain, least_with, IsLeastWeightOrNone}
 
 -- ---- the least weight of some elements
 

@@ -1,11 +1,7 @@
 -- At most one arc into each vertex and none into the root: the caps are the list that is made.
-use Rattle.std.proofs.Common.{◌≡◌, ◌≢◌, ℕ, ◌<◌, List, length, get_or, replicate, set, inl, inr, sym, ap, ◌∙◌, subst, arith}
-use Rattle.std.proofs.lemmas.Bool.{cases_eq}
+use Rattle.mat_check.proofs.Common.{◌≡◌, ◌≢◌, ℕ, ◌<◌, List, length, get_or, replicate, set, inl, inr, sym, ap, ◌∙◌, subst, arith, cases_eq, get_or-replicate, get_or-set_other, get_or-set_same, length-replicate, length-set, caps_by-at, length-caps_by, cap_at}
 use Rattle.std.proofs.lemmas.Grind.{same_number_lists}
-use Rattle.std.proofs.lemmas.List.{get_or-replicate, get_or-set_other, get_or-set_same, length-replicate, length-set}
 use Rattle.mat_count.specs.Labels.{caps_by}
-use Rattle.mat_count.proofs.LabelClasses.{caps_by-at, length-caps_by}
-use Rattle.mat_arbor.specs.Heads.{cap_at}
 use Rattle.mat_arbor.proofs.CommonSets.{cap_other, cap_root}
 
 pub caps_by-root : (vertices root : ℕ) (ones : List ℕ) → root < vertices → ones ≡ replicate vertices 1

@@ -1,6 +1,5 @@
 -- The first failure of clauses in three parts, and of clauses that end in one more.
-use Rattle.std.proofs.Common.{◌≡◌, true, false, List, [], ◌∷◌, ◌++◌, Some, None, sym, ◌∙◌}
-use Rattle.mat_check.specs.Clauses.{Clause, Failure, first_failure}
+use Rattle.mat_check.proofs.Common.{◌≡◌, true, false, List, [], ◌∷◌, ◌++◌, Some, None, sym, ◌∙◌, Clause, Failure, first_failure}
 use Rattle.mat_check.proofs.FailingClauses.{first_in_back, first_in_front, first_of_failing, first_of_holding}
 
 module _ (first second third : List Clause) where

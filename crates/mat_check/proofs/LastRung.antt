@@ -1,12 +1,6 @@
 -- The clause of the last rung, read off the rung that stands last.
-use Rattle.std.proofs.Common.{◌≡◌, ℕ, ◌-◌, ◌<◌, Bool, true, false, not, List, [], length}
-use Rattle.std.proofs.Common.{get_or, Some, None, slice_get, sym, ap, ◌∙◌, arith}
-use Rattle.std.proofs.lemmas.Option.{slice_get-get_or}
-use Rattle.mat_laws.specs.Searches.{has_addable}
-use Rattle.mat_cert.specs.Certificates.{last_rung}
-use Rattle.mat_cert.specs.declared.answer.PlainRung.{PlainRung}
+use Rattle.mat_check.proofs.Common.{◌≡◌, ℕ, ◌-◌, ◌<◌, Bool, true, false, not, List, [], length, get_or, Some, None, slice_get, sym, ap, ◌∙◌, arith, slice_get-get_or, has_addable, last_rung, PlainRung, Clause, failure_at, first_failure, last_clause}
 use Rattle.mat_check.specs.declared.reason.Reason.TheVariants.{Short}
-use Rattle.mat_check.specs.Clauses.{Clause, failure_at, first_failure, last_clause}
 use Rattle.mat_check.proofs.FailingClauses.{first_of_holding, first_of_failing}
 
 -- the last of some rungs

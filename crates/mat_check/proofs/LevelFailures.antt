@@ -1,15 +1,7 @@
 -- The first failure of a level whose weight is told to be right: that of the members of its cut, and then the cut itself. The weight is told of a
 -- list that is that of the falling weights, and the cut of a set that is the union of the parts.
-use Rattle.std.proofs.Common.{◌≡◌, ◌+◌, ◌==◌, ℕ, Bool, true, false, List, [], ◌∷◌, ◌++◌, length, map, Some, None, ap, sym, ◌∙◌}
-use Rattle.mat_sets.specs.FallingWeights.{falling_weights, heavy}
-use Rattle.mat_sets.specs.Families.{family_union}
-use Rattle.mat_sets.specs.Sets.{intersection, minus}
-use Rattle.mat_sets.specs.Weights.{is_same, weight_at}
-use Rattle.mat_sets.specs.declared.weight.Weight.{Weight}
-use Rattle.mat_union.specs.Unions.{ranks_sum}
-use Rattle.mat_cert.specs.declared.answer.LevelLine.{LevelLine}
-use Rattle.mat_check.specs.Clauses.{Clause, Failure, first_failure}
-use Rattle.mat_check.specs.SetClauses.{level_clause, level_clauses, level_cut_clause, outside_clause}
+use Rattle.mat_check.proofs.Common.{◌≡◌, ◌+◌, ◌==◌, ℕ, Bool, true, false, List, [], ◌∷◌, ◌++◌, length, map, Some, None, ap, sym, ◌∙◌, falling_weights, heavy, family_union, intersection, minus, is_same, weight_at, Weight, ranks_sum, LevelLine, Clause, Failure, first_failure, level_clause}
+use Rattle.mat_check.proofs.Common.{level_clauses, level_cut_clause, outside_clause}
 use Rattle.mat_check.proofs.FailingClauses.{first_in_front, first_of_holding}
 use Rattle.mat_check.proofs.JoinedClauses.{end_fails, end_holds}
 

@@ -1,16 +1,6 @@
 -- Each rung has the number of a listed half that is its own: so heaviest sets are weighed under the listed halves alone.
-use Rattle.std.proofs.Common.{◌≡◌, ℕ, ◌+◌, ◌<◌, List, [], length, get_or, map}
-use Rattle.std.proofs.Common.{sym, subst, ◌∙◌, arith}
-use Rattle.std.proofs.lemmas.List.{get_or-map}
-use Rattle.mat_sets.specs.Weights.{weight_at}
-use Rattle.mat_sets.specs.declared.weight.Weight.{Weight}
-use Rattle.mat_any.specs.Trees.{element_count, is_independent}
-use Rattle.mat_any.specs.Views.{tree_of}
+use Rattle.mat_check.proofs.Common.{◌≡◌, ℕ, ◌+◌, ◌<◌, List, [], length, get_or, map, sym, subst, ◌∙◌, arith, get_or-map, weight_at, Weight, element_count, is_independent, tree_of, AreHeaviestWeights, StandFrom, StandFrom_at, AreListed, AreSumsUnder, half_at}
 use Rattle.mat_any.specs.declared.any.AnyMatroid.{AnyMatroid}
-use Rattle.mat_greedy.specs.Greedy.{AreHeaviestWeights}
-use Rattle.mat_work.specs.Rows.{StandFrom}
-use Rattle.mat_work.proofs.StandingRows.{StandFrom_at}
-use Rattle.mat_check.specs.Halves.{AreListed, AreSumsUnder, half_at}
 
 -- the weights of heaviest sets under the listed halves are those of each rung, by the number of its half
 pub sums_of_rung : (m : AnyMatroid) (halves sums : List (List Weight)) (listed own : List ℕ) → AreListed halves listed own

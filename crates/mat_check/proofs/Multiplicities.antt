@@ -1,9 +1,6 @@
 -- Counting in how many sets of a family an element stands, set by set; and the clauses that none stands in two, and none in no set.
-use Rattle.std.proofs.Common.{◌≡◌, ℕ, ◌+◌, ◌<◌, List, [], length, get_or, take, nat_le, nat_lt, sym, arith}
-use Rattle.mat_sets.specs.Families.{indicator, multiplicity}
-use Rattle.mat_sets.specs.Sets.{is_member}
+use Rattle.mat_check.proofs.Common.{◌≡◌, ℕ, ◌+◌, ◌<◌, List, [], length, get_or, take, nat_le, nat_lt, sym, arith, indicator, multiplicity, is_member, Clause, failure_at}
 use Rattle.mat_sets.proofs.Steps.{multiplicity-more, multiplicity-none}
-use Rattle.mat_check.specs.Clauses.{Clause, failure_at}
 use Rattle.mat_check.specs.declared.reason.Reason.TheVariants as reasons
 
 -- ---- the clauses of an element

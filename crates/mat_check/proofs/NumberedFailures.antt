@@ -1,10 +1,6 @@
 -- The clauses of the items of a list, place by place: all hold exactly where those at each place do, and a walk along the places finds the
 -- first that fails, since what is left of the list tells it as long as none has failed.
-use Rattle.std.proofs.Common.{◌≡◌, ℕ, ◌+◌, suc, ◌<◌, List, ◌++◌, length, get_or, map, drop}
-use Rattle.std.proofs.Common.{Some, None, sym, subst, ap, ◌∙◌, arith}
-use Rattle.std.proofs.lemmas.List.{drop_more}
-use Rattle.std.proofs.lemmas.Option.{get_or_from_slice_get, slice_get-get_or, slice_get_within}
-use Rattle.mat_check.specs.Clauses.{Clause, Failure, first_failure, numbered_clauses}
+use Rattle.mat_check.proofs.Common.{◌≡◌, ℕ, ◌+◌, suc, ◌<◌, List, ◌++◌, length, get_or, map, drop, Some, None, sym, subst, ap, ◌∙◌, arith, drop_more, get_or_from_slice_get, slice_get-get_or, slice_get_within, Clause, Failure, first_failure, numbered_clauses}
 use Rattle.mat_check.proofs.FailingClauses.{first_in_back, first_in_front}
 use Rattle.mat_check.proofs.FirstFailures.{AllHold, each_rung_holds, all_rungs_hold}
 

@@ -1,10 +1,5 @@
 -- No better answer exists than a right one: form by form.
-use Rattle.mat_problem.specs.Validity.{IsValid}
-use Rattle.mat_problem.specs.Instances.{Instance}
-use Rattle.mat_problem.proofs.SoundProblems.{IsSoundInstance-valid}
-use Rattle.mat_cert.specs.Certificates.{Certificate}
-use Rattle.mat_right.specs.Right.{IsRight}
-use Rattle.mat_check.specs.Optimal.{IsOptimal}
+use Rattle.mat_check.proofs.Common.{IsValid, Instance, IsSoundInstance-valid, Certificate, IsRight, IsOptimal}
 use Rattle.mat_check.proofs.AnswerForms.{by_right, OnEachForm, RightIsOptimal}
 use Rattle.mat_check.proofs.OptimalFronts.{right_arborescence_is_optimal, right_assignment_is_optimal, right_rainbow_is_optimal}
 use Rattle.mat_check.proofs.OptimalLadders.{right_ladder_is_optimal, right_rungs_are_optimal}

@@ -1,21 +1,8 @@
 -- No better assignments, rainbow trees or arborescences exist than right ones: the first two are ladders, where no rainbow tree is there the
 -- missing colours show it, and the split of an arborescence shows that it costs least.
-use Rattle.std.proofs.Common.{ℕ, ◌<◌, ◌≤◌, List, length, get_or, Option, Some, None, subst, arith}
-use Rattle.std.specs.Prelude.{MatchOption}
-use Rattle.mat_sets.specs.Graphs.{ends_of, IsGraph}
-use Rattle.mat_sets.specs.declared.weight.Weight.{Weight}
-use Rattle.mat_arbor.proofs.LeastTrees.{split_is_least}
-use Rattle.mat_fronts.specs.Assignments.{column_at, row_at}
-use Rattle.mat_fronts.specs.Once.{is_once}
-use Rattle.mat_fronts.specs.Rainbow.{IsMissingColours, IsRainbowTree}
+use Rattle.mat_check.proofs.Common.{ℕ, ◌<◌, ◌≤◌, List, length, get_or, Option, Some, None, subst, arith, MatchOption, ends_of, IsGraph, Weight, split_is_least, column_at, row_at, is_once, IsMissingColours, IsRainbowTree, once_laws, graphic_laws, rooted, coloured, table, arbor, rainbow, assign}
+use Rattle.mat_check.proofs.Common.{PricedRung, IsRightRainbow, IsOptimalLadder, IsOptimalRainbow}
 use Rattle.mat_fronts.proofs.Ladders.{missing_colours_exclude}
-use Rattle.mat_fronts.proofs.OnceEach.{once_laws}
-use Rattle.mat_graphic.specs.ForestLaws.{graphic_laws}
-use Rattle.mat_problem.specs.Instances.{rooted, coloured, table}
-use Rattle.mat_cert.specs.Certificates.{arbor, rainbow, assign}
-use Rattle.mat_cert.specs.declared.answer.PricedRung.{PricedRung}
-use Rattle.mat_right.specs.Right.{IsRightRainbow}
-use Rattle.mat_check.specs.Optimal.{IsOptimalLadder, IsOptimalRainbow}
 use Rattle.mat_check.proofs.AnswerForms.{RightIsOptimal}
 use Rattle.mat_check.proofs.OptimalLadders.{ladder_is_optimal}
 use Rattle.mat_check.proofs.ValidGraphs.{coloured_is_graph, rooted_is_graph, root_is_below}

@@ -1,17 +1,7 @@
 -- No better ladder exists than a right one: the splits show that each set is heaviest, and the cut or the base that none is larger.
-use Rattle.std.proofs.Common.{ℕ, Bool, List, [], ◌∷◌, inl, inr, arith}
-use Rattle.std.proofs.lemmas.Option.{slice_get_cases}
-use Rattle.mat_sets.specs.declared.weight.Weight.{Weight}
-use Rattle.mat_laws.specs.Matroids.{IsMatroid}
+use Rattle.mat_check.proofs.Common.{ℕ, Bool, List, [], ◌∷◌, inl, inr, arith, slice_get_cases, Weight, IsMatroid, Tree, is_independent, pair, list, intersect, best, last_rung, PlainRung, PricedRung, IsRightLadder, AreRightRungs, IsOptimalLadder, AreOptimalRungs}
 use Rattle.mat_laws.proofs.BestLadders.{rung_is_heaviest, cut_bounds}
 use Rattle.mat_laws.proofs.Maximal.{base_largest}
-use Rattle.mat_any.specs.Trees.{Tree, is_independent}
-use Rattle.mat_problem.specs.Instances.{pair, list}
-use Rattle.mat_cert.specs.Certificates.{intersect, best, last_rung}
-use Rattle.mat_cert.specs.declared.answer.PlainRung.{PlainRung}
-use Rattle.mat_cert.specs.declared.answer.PricedRung.{PricedRung}
-use Rattle.mat_right.specs.Right.{IsRightLadder, AreRightRungs}
-use Rattle.mat_check.specs.Optimal.{IsOptimalLadder, AreOptimalRungs}
 use Rattle.mat_check.proofs.AnswerForms.{RightIsOptimal}
 use Rattle.mat_check.proofs.RightLadders.{laws_as_said, laws_on_weights, laws_of_one}
 

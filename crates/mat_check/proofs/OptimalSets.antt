@@ -1,21 +1,9 @@
 -- No union, packing or covering is better than a right one: the laws of the crates below, at the matroids of the problem.
-use Rattle.std.proofs.Common.{◌≡◌, ℕ, ◌<◌, false, List, [], ◌∷◌, Bool, length, map, get_or, Option, Some, None, sym}
-use Rattle.std.proofs.Common.{subst, arith}
-use Rattle.std.proofs.lemmas.List.{length-map, get_or-map}
-use Rattle.std.proofs.lemmas.List.Elements.{All-get_or}
-use Rattle.mat_sets.specs.declared.weight.Weight.{Weight}
-use Rattle.mat_laws.specs.Matroids.{IsMatroid}
-use Rattle.mat_union.specs.Unions.{AreMatroids}
+use Rattle.mat_check.proofs.Common.{◌≡◌, ℕ, ◌<◌, false, List, [], ◌∷◌, Bool, length, map, get_or, Option, Some, None, sym, subst, arith, length-map, get_or-map, All-get_or, Weight, IsMatroid, AreMatroids, Tree, element_count, is_independent, IsSound, list, IsSoundInstance, union_of, pack_any, pack}
+use Rattle.mat_check.proofs.Common.{cover_never, cover, LevelLine, level_of, AreFewestSets}
 use Rattle.mat_union.proofs.LevelsShow.{right_is_best}
 use Rattle.mat_packing.specs.Packings.{IsRightCovering}
 use Rattle.mat_packing.proofs.Copies.{covering_is_least, loop_has_no_cover, packing_is_most, rank_none}
-use Rattle.mat_any.specs.Trees.{Tree, element_count, is_independent, IsSound}
-use Rattle.mat_problem.specs.Instances.{list}
-use Rattle.mat_problem.specs.Soundness.{IsSoundInstance}
-use Rattle.mat_cert.specs.Certificates.{union_of, pack_any, pack, cover_never, cover}
-use Rattle.mat_cert.specs.declared.answer.LevelLine.{LevelLine}
-use Rattle.mat_right.specs.Right.{level_of}
-use Rattle.mat_check.specs.Optimal.{AreFewestSets}
 use Rattle.mat_check.proofs.AnswerForms.{RightIsOptimal}
 use Rattle.mat_check.proofs.RightLadders.{laws_as_said, laws_of_one, laws_on_weights}
 

@@ -1,15 +1,8 @@
 -- No better answers than right trees, partitions, arborescences and vertex sets that are entered too seldom: a partition leaves room for few
 -- trees, and each arborescence enters each vertex set without the root.
-use Rattle.std.proofs.Common.{ℕ, List, length, subst}
-use Rattle.mat_sets.specs.Graphs.{ends_of}
-use Rattle.mat_sets.specs.declared.weight.Weight.{Weight}
-use Rattle.mat_sets.proofs.Crossings.{unentered_has_none}
-use Rattle.mat_packing.specs.Trees.{AreTrees, IsRightPartition}
+use Rattle.mat_check.proofs.Common.{ℕ, List, length, subst, ends_of, Weight, unentered_has_none, AreTrees, IsRightPartition, AreDisjointArborescences, IsSeldomEntered, graph, rooted, disjoint, disjoint_none, trees, trees_none, unreached}
 use Rattle.mat_packing.proofs.Partitions.{few_trees}
-use Rattle.mat_branch.specs.Arborescences.{AreDisjointArborescences, IsSeldomEntered}
 use Rattle.mat_branch.proofs.Packing.{seldom_entered_has_none}
-use Rattle.mat_problem.specs.Instances.{graph, rooted}
-use Rattle.mat_cert.specs.Certificates.{disjoint, disjoint_none, trees, trees_none, unreached}
 use Rattle.mat_check.proofs.AnswerForms.{RightIsOptimal}
 use Rattle.mat_check.proofs.ValidGraphs.{graph_is_graph}
 

@@ -1,13 +1,7 @@
 -- No two sets of a family on n elements share a member exactly where each element below n stands in at most one, as no other number stands
 -- in any. The clauses of families hold where their sentences do.
-use Rattle.std.proofs.Common.{ℕ, ◌<◌, ◌≤◌, List, inl, inr, sym, ◌∙◌, arith}
-use Rattle.std.proofs.lemmas.Bool.{cases_lt, le-leb, leb-true, lt-ltb, ltb-true}
+use Rattle.mat_check.proofs.Common.{ℕ, ◌<◌, ◌≤◌, List, inl, inr, sym, ◌∙◌, arith, cases_lt, le-leb, leb-true, lt-ltb, ltb-true, AreDisjoint, multiplicity, all_below, IsSet, is_member-all_below, multiplicity-past, missed_clauses, overlap_clauses}
 use Rattle.std.specs.List.{All}
-use Rattle.mat_sets.specs.Families.{AreDisjoint, multiplicity}
-use Rattle.mat_sets.specs.Sets.{all_below, IsSet}
-use Rattle.mat_sets.proofs.Ground.{is_member-all_below}
-use Rattle.mat_sets.proofs.Families.{multiplicity-past}
-use Rattle.mat_check.specs.SetClauses.{missed_clauses, overlap_clauses}
 use Rattle.mat_check.proofs.FirstFailures.{AllHold, AllHold-at, AllHold-map}
 use Rattle.mat_check.proofs.Multiplicities.{missed_clause, overlap_clause}
 

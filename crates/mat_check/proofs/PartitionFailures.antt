@@ -1,10 +1,5 @@
 -- The first clause of a partition that fails, by the four kinds of its clauses: the first kind that has one tells it.
-use Rattle.std.proofs.Common.{◌≡◌, ℕ, ◌<◌, ◌≤◌, ◌-◌, ◌*◌, List, [], ◌∷◌, ◌++◌, length, Some, None, sym, ◌∙◌}
-use Rattle.std.proofs.lemmas.Bool.{le-ltb, lt-ltb}
-use Rattle.mat_packing.specs.Trees.{crossing}
-use Rattle.mat_check.specs.Clauses.{first_failure, numbered_clauses, Clause, Failure, failure_at}
-use Rattle.mat_check.specs.SetClauses.{missed_clauses, overlap_clauses}
-use Rattle.mat_check.specs.TreeClauses.{crossing_clause, partition_clauses, some_clause}
+use Rattle.mat_check.proofs.Common.{◌≡◌, ℕ, ◌<◌, ◌≤◌, ◌-◌, ◌*◌, List, [], ◌∷◌, ◌++◌, length, Some, None, sym, ◌∙◌, le-ltb, lt-ltb, crossing, first_failure, numbered_clauses, Clause, Failure, failure_at, missed_clauses, overlap_clauses, crossing_clause, partition_clauses, some_clause}
 use Rattle.mat_check.specs.declared.reason.Reason.TheVariants as reasons
 use Rattle.mat_check.proofs.FailingClauses.{first_in_back, first_in_front, first_of_failing, first_of_holding}
 

@@ -1,11 +1,5 @@
 -- The halves of the splits of the rungs, read from their list, are in range.
-use Rattle.std.proofs.Common.{◌≡◌, ℕ, zero, suc, ◌<◌, List, [], ◌∷◌, length, Some, slice_get, eqb, false, inl, inr, refl, sym, ap, subst, arith}
-use Rattle.std.proofs.lemmas.Bool.{both_ways, cases_eq, eq-eqb}
-use Rattle.std.proofs.lemmas.Option.{none-some, same_Some}
-use Rattle.mat_cert.specs.Certificates.{AreRangedRungs, IsRangedPricedRung, IsRangedPart}
-use Rattle.mat_cert.specs.declared.answer.PricedRung.{PricedRung}
-use Rattle.mat_check.specs.Halves.{half_of, halves_of, half_at}
-use Rattle.mat_check.specs.declared.ladder.halves.Side.{Side}
+use Rattle.mat_check.proofs.Common.{◌≡◌, ℕ, zero, suc, ◌<◌, List, [], ◌∷◌, length, Some, slice_get, eqb, false, inl, inr, refl, sym, ap, subst, arith, both_ways, cases_eq, eq-eqb, none-some, same_Some, AreRangedRungs, IsRangedPricedRung, IsRangedPart, PricedRung, half_of, halves_of, half_at, Side}
 use Rattle.mat_check.specs.declared.ladder.halves.Side.TheVariants.{First, Second}
 
 pub half_at-read : (side : Side) (rungs : List PricedRung) (k : ℕ) (rung : PricedRung) → slice_get rungs k ≡ Some rung

@@ -1,12 +1,5 @@
 -- An answer in range that fits is right exactly where none of its clauses fails: form by form.
-use Rattle.std.proofs.Common.{◌≡◌, ◌↔◌, true, None}
-use Rattle.mat_problem.specs.Validity.{IsValid}
-use Rattle.mat_problem.specs.Instances.{Instance}
-use Rattle.mat_problem.proofs.SoundProblems.{IsSoundInstance-valid}
-use Rattle.mat_cert.specs.Certificates.{Certificate, IsRanged}
-use Rattle.mat_right.specs.Right.{IsRight}
-use Rattle.mat_check.specs.AnswerClauses.{failure_of}
-use Rattle.mat_check.specs.Fitting.{fits}
+use Rattle.mat_check.proofs.Common.{◌≡◌, ◌↔◌, true, None, IsValid, Instance, IsSoundInstance-valid, Certificate, IsRanged, IsRight, failure_of, fits}
 use Rattle.mat_check.proofs.AnswerForms.{by_fitting, OnEachForm, RightHasNoFailure}
 use Rattle.mat_check.proofs.RightFronts.{right_arborescence_has_no_failure, right_assignment_has_no_failure, right_rainbow_has_no_failure}
 use Rattle.mat_check.proofs.RightLadders.{right_ladder_has_no_failure, right_rungs_have_no_failure}

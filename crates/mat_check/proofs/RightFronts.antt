@@ -1,33 +1,10 @@
 -- Rainbow ladders, assignments and arborescences in range are right exactly where none of their clauses fails. The first two are ladders;
 -- of an arborescence the tests tell what they should since it is independent in both matroids.
-use Rattle.std.proofs.Common.{◌≡◌, ◌↔◌, ℕ, suc, ◌<◌, ◌≤◌, true, ◌&&◌, eqb, List, [], ◌∷◌, length, get_or, map, Option, Some, None}
-use Rattle.std.proofs.Common.{sym, subst, ◌∙◌, arith}
-use Rattle.std.specs.Prelude.{MatchOption}
-use Rattle.std.proofs.lemmas.Bool.{eqb-true, eq-eqb, and_parts, and_from, lt-ltb, ltb-true, ltb-false, not-true, not_from_false}
-use Rattle.mat_sets.specs.Graphs.{ends_of, IsGraph, IsSpanningArborescence}
-use Rattle.mat_sets.specs.Sets.{all_below, IsSet}
-use Rattle.mat_sets.specs.Weights.{weight, weight_at}
-use Rattle.mat_sets.specs.declared.weight.Weight.{Weight}
-use Rattle.mat_sets.proofs.Ground.{is_member-all_below}
-use Rattle.mat_sets.proofs.WeightOrder.{same_gives, same_from}
-use Rattle.mat_laws.proofs.Searches.{IsHeaviest-not_beaten, not_beaten-IsHeaviest}
-use Rattle.mat_graphic.specs.Forests.{is_graphic, number_of_components}
-use Rattle.mat_graphic.specs.ForestLaws.{graphic_laws}
-use Rattle.mat_branch.specs.Spanning.{is_spanning_arborescence}
-use Rattle.mat_branch.proofs.SpanningTests.{spanning_is_told}
+use Rattle.mat_check.proofs.Common.{◌≡◌, ◌↔◌, ℕ, suc, ◌<◌, ◌≤◌, true, ◌&&◌, eqb, List, [], ◌∷◌, length, get_or, map, Option, Some, None, sym, subst, ◌∙◌, arith, MatchOption, eqb-true, eq-eqb, and_parts, and_from, lt-ltb, ltb-true, ltb-false, not-true, not_from_false, ends_of, IsGraph}
+use Rattle.mat_check.proofs.Common.{IsSpanningArborescence, all_below, IsSet, weight, weight_at, Weight, is_member-all_below, same_gives, same_from, IsHeaviest-not_beaten, not_beaten-IsHeaviest, is_graphic, number_of_components, graphic_laws, is_spanning_arborescence, spanning_is_told}
+use Rattle.mat_check.proofs.Common.{is_entering_once, common_from_arborescence, column_at, row_at, is_once, IsMissingColours, edges_without, once_laws, rooted, coloured, table, IsRangedArborescence, IsRangedOption, is_short_of_tree, arbor, rainbow, assign, last_rung, PricedRung, clauses_of, Clause}
+use Rattle.mat_check.proofs.Common.{heaviest_clause, ladder_clauses, arborescence_clauses, colours_clauses, cost_clause}
 use Rattle.mat_arbor.specs.Arborescences.{IsSplitArborescence}
-use Rattle.mat_arbor.specs.Heads.{is_entering_once}
-use Rattle.mat_arbor.proofs.LeastTrees.{common_from_arborescence}
-use Rattle.mat_fronts.specs.Assignments.{column_at, row_at}
-use Rattle.mat_fronts.specs.Once.{is_once}
-use Rattle.mat_fronts.specs.Rainbow.{IsMissingColours, edges_without}
-use Rattle.mat_fronts.proofs.OnceEach.{once_laws}
-use Rattle.mat_problem.specs.Instances.{rooted, coloured, table}
-use Rattle.mat_cert.specs.Certificates.{IsRangedArborescence, IsRangedOption, is_short_of_tree, arbor, rainbow, assign, last_rung}
-use Rattle.mat_cert.specs.declared.answer.PricedRung.{PricedRung}
-use Rattle.mat_check.specs.AnswerClauses.{clauses_of}
-use Rattle.mat_check.specs.Clauses.{Clause, heaviest_clause, ladder_clauses}
-use Rattle.mat_check.specs.TreeClauses.{arborescence_clauses, colours_clauses, cost_clause}
 use Rattle.mat_arbor.proofs.Splits.{entering_once_laws}
 use Rattle.mat_check.proofs.AnswerForms.{RightHasNoFailure}
 use Rattle.mat_check.proofs.FirstFailures.{AllHold, all_hold, none_fails, AllHold-append, AllHold-at, AllHold-back, AllHold-front, AllHold-map}

@@ -1,22 +1,9 @@
 -- A ladder in range is right exactly where none of its clauses fails: the rungs one by one, and then what ends them. So it is for any two
 -- matroids, and for the heaviest sets of any one.
-use Rattle.std.proofs.Common.{◌≡◌, ℕ, Bool, true, List, [], ◌∷◌}
-use Rattle.std.proofs.Common.{length, Option, Some, None, slice_get, refl, sym, subst}
-use Rattle.std.proofs.lemmas.List.Elements.{All-head}
-use Rattle.std.proofs.lemmas.Bool.{eqb-true, eq-eqb, not-true, not_from_false}
-use Rattle.mat_sets.specs.declared.weight.Weight.{Weight}
-use Rattle.mat_laws.specs.Matroids.{IsMatroid, IsBase}
-use Rattle.mat_laws.proofs.Searches.{IsBase-not_addable, not_addable-IsBase}
-use Rattle.mat_any.specs.Trees.{Tree, is_independent, element_count, IsSound}
+use Rattle.mat_check.proofs.Common.{◌≡◌, ℕ, Bool, true, List, [], ◌∷◌, length, Option, Some, None, slice_get, refl, sym, subst, All-head, eqb-true, eq-eqb, not-true, not_from_false, Weight, IsMatroid, IsBase, IsBase-not_addable, not_addable-IsBase, Tree, is_independent, element_count, IsSound, pair}
+use Rattle.mat_check.proofs.Common.{list, IsSoundInstance, AreRangedRungs, IsRangedLadder, IsRangedPlainRung, intersect, best, last_rung, PlainRung, PricedRung, IsRightLadder, IsRightPlainRung, AreRightRungs, clauses_of, Clause, best_clauses, cut_clause, ladder_clauses, last_clause}
+use Rattle.mat_check.proofs.Common.{numbered_clauses, plain_rung_clauses, priced_rung_clauses}
 use Rattle.mat_any.specs.TreeLaws.{tree_laws}
-use Rattle.mat_problem.specs.Instances.{pair, list}
-use Rattle.mat_problem.specs.Soundness.{IsSoundInstance}
-use Rattle.mat_cert.specs.Certificates.{AreRangedRungs, IsRangedLadder, IsRangedPlainRung, intersect, best, last_rung}
-use Rattle.mat_cert.specs.declared.answer.PlainRung.{PlainRung}
-use Rattle.mat_cert.specs.declared.answer.PricedRung.{PricedRung}
-use Rattle.mat_right.specs.Right.{IsRightLadder, IsRightPlainRung, AreRightRungs}
-use Rattle.mat_check.specs.AnswerClauses.{clauses_of}
-use Rattle.mat_check.specs.Clauses.{Clause, best_clauses, cut_clause, ladder_clauses, last_clause, numbered_clauses, plain_rung_clauses, priced_rung_clauses}
 use Rattle.mat_check.proofs.AnswerForms.{RightHasNoFailure}
 use Rattle.mat_check.proofs.FirstFailures.{AllHold, all_hold, none_fails, AllHold-append}
 use Rattle.mat_check.proofs.FirstFailures.{AllHold-front, AllHold-back, each_rung_holds, all_rungs_hold}

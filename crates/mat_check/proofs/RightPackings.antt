@@ -1,18 +1,7 @@
 -- Packings and coverings in range are right exactly where their clauses hold.
-use Rattle.std.proofs.Common.{◌≡◌, ℕ, ◌+◌, ◌<◌, Bool, true, false, ◌||◌, List, [], ◌∷◌, ◌++◌, length, Option, Some}
-use Rattle.std.proofs.Common.{None, refl, ◌∙◌, arith}
-use Rattle.std.proofs.lemmas.Bool.{lt-ltb, ltb-false, ltb-true, not-true, not_from_false}
-use Rattle.mat_sets.specs.Families.{family_union, indicator, multiplicity}
-use Rattle.mat_sets.specs.Sets.{is_member}
-use Rattle.mat_sets.proofs.Families.{family_union-gives, multiplicity-at}
-use Rattle.mat_sets.proofs.Members.{is_member-union}
-use Rattle.mat_laws.proofs.Searches.{IsBase-not_addable, not_addable-IsBase}
-use Rattle.mat_union.specs.Unions.{part_at}
+use Rattle.mat_check.proofs.Common.{◌≡◌, ℕ, ◌+◌, ◌<◌, Bool, true, false, ◌||◌, List, [], ◌∷◌, ◌++◌, length, Option, Some, None, refl, ◌∙◌, arith, lt-ltb, ltb-false, ltb-true, not-true, not_from_false, family_union, indicator, multiplicity, is_member, family_union-gives, multiplicity-at}
+use Rattle.mat_check.proofs.Common.{is_member-union, IsBase-not_addable, not_addable-IsBase, part_at, IsRangedCover, IsRangedPacking, Clause, numbered_clauses, cover_clauses, cover_cut_clauses, full_clause, independent_clause, missed_clauses, overlap_clauses, pack_clauses, packing_cut_clause}
 use Rattle.mat_packing.specs.Packings.{IsCover, IsRightCovering, IsRightPacking}
-use Rattle.mat_cert.specs.Certificates.{IsRangedCover, IsRangedPacking}
-use Rattle.mat_check.specs.Clauses.{Clause, numbered_clauses}
-use Rattle.mat_check.specs.SetClauses.{cover_clauses, cover_cut_clauses, full_clause, independent_clause, missed_clauses, overlap_clauses}
-use Rattle.mat_check.specs.SetClauses.{pack_clauses, packing_cut_clause}
 use Rattle.mat_check.proofs.FirstFailures.{AllHold, AllHold-append, AllHold-back, AllHold-front}
 use Rattle.mat_check.proofs.NumberedFailures.{all_items_hold, each_holds}
 use Rattle.mat_check.proofs.Overlaps.{disjoint_where_none_overlaps, missed_none, none_missed, none_overlaps}

@@ -1,18 +1,6 @@
 -- A rung in range is right exactly where its clauses hold.
-use Rattle.std.proofs.Common.{ℕ, Bool, List, [], ◌∷◌, ◌++◌, map, sym, ◌∙◌}
-use Rattle.std.proofs.lemmas.Bool.{lt-ltb, ltb-true, not-true, not_from_false}
-use Rattle.mat_sets.specs.Sets.{all_below}
-use Rattle.mat_sets.specs.Weights.{weight_at}
-use Rattle.mat_sets.specs.declared.weight.Weight.{Weight}
-use Rattle.mat_sets.proofs.WeightOrder.{same_gives, same_from}
-use Rattle.mat_sets.proofs.Ground.{is_member-all_below}
-use Rattle.mat_laws.specs.Matroids.{IsMatroid}
-use Rattle.mat_laws.proofs.Searches.{IsHeaviest-not_beaten, not_beaten-IsHeaviest}
-use Rattle.mat_cert.specs.Certificates.{IsRangedPlainRung, IsRangedPricedRung}
-use Rattle.mat_cert.specs.declared.answer.PlainRung.{PlainRung}
-use Rattle.mat_cert.specs.declared.answer.PricedRung.{PricedRung}
-use Rattle.mat_right.specs.Right.{IsRightPlainRung, IsRightPricedRung}
-use Rattle.mat_check.specs.Clauses.{Clause, sum_clause, heaviest_clause, priced_rung_clauses, plain_rung_clauses}
+use Rattle.mat_check.proofs.Common.{ℕ, Bool, List, [], ◌∷◌, ◌++◌, map, sym, ◌∙◌, lt-ltb, ltb-true, not-true, not_from_false, all_below, weight_at, Weight, same_gives, same_from, is_member-all_below, IsMatroid, IsHeaviest-not_beaten, not_beaten-IsHeaviest, IsRangedPlainRung, IsRangedPricedRung}
+use Rattle.mat_check.proofs.Common.{PlainRung, PricedRung, IsRightPlainRung, IsRightPricedRung, Clause, sum_clause, heaviest_clause, priced_rung_clauses, plain_rung_clauses}
 use Rattle.mat_check.proofs.FirstFailures.{AllHold, AllHold-append, AllHold-front, AllHold-back, AllHold-map, AllHold-at}
 
 -- ---- rungs without a split

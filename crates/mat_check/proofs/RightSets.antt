@@ -1,17 +1,6 @@
 -- An answer in range on unions, packings and coverings is right exactly where none of its clauses fails.
-use Rattle.std.proofs.Common.{◌≡◌, ◌↔◌, ℕ, Bool, ◌&&◌, List, [], ◌∷◌, length, map, eqb, Option, None, sym, ◌∙◌}
-use Rattle.std.proofs.lemmas.Bool.{and_from, and_parts, eq-eqb, eqb-true, not-true, not_from_false}
-use Rattle.std.proofs.lemmas.List.{length-map}
-use Rattle.mat_sets.specs.declared.weight.Weight.{Weight}
-use Rattle.mat_any.specs.Trees.{Tree, is_independent}
-use Rattle.mat_problem.specs.Instances.{list}
-use Rattle.mat_cert.specs.Certificates.{IsRangedUnion, union_of, pack_any, pack, cover_never, cover}
-use Rattle.mat_cert.specs.declared.answer.LevelLine.{LevelLine}
-use Rattle.mat_right.specs.Right.{IsRightUnionAnswer}
-use Rattle.mat_check.specs.AnswerClauses.{clauses_of}
-use Rattle.mat_check.specs.Clauses.{Clause, first_failure, header_clause}
-use Rattle.mat_sets.specs.FallingWeights.{falling_weights}
-use Rattle.mat_check.specs.SetClauses.{cover_clauses, pack_clauses, union_clauses}
+use Rattle.mat_check.proofs.Common.{◌≡◌, ◌↔◌, ℕ, Bool, ◌&&◌, List, [], ◌∷◌, length, map, eqb, Option, None, sym, ◌∙◌, and_from, and_parts, eq-eqb, eqb-true, not-true, not_from_false, length-map, Weight, Tree, is_independent, list, IsRangedUnion, union_of, pack_any, pack, cover_never, cover}
+use Rattle.mat_check.proofs.Common.{LevelLine, IsRightUnionAnswer, clauses_of, Clause, first_failure, header_clause, falling_weights, cover_clauses, pack_clauses, union_clauses}
 use Rattle.mat_check.proofs.AnswerForms.{RightHasNoFailure}
 use Rattle.mat_check.proofs.FallingLevels.{falling_gives}
 use Rattle.mat_check.proofs.FirstFailures.{AllHold, all_hold, none_fails}

@@ -1,29 +1,11 @@
 -- Spanning trees, partitions, arborescences and vertex sets that are entered too seldom: an answer in range is right exactly where none of its
 -- clauses fails. Each clause is the test of a sentence of the definition, so that all hold where each sentence does.
-use Rattle.std.proofs.Common.{◌≡◌, ℕ, ◌<◌, ◌-◌, ◌*◌, ◌&&◌, true, eqb, List, [], ◌∷◌, ◌++◌, length, get_or}
-use Rattle.std.proofs.Common.{inl, inr, refl, sym, subst, ◌∙◌, arith}
-use Rattle.std.proofs.lemmas.Bool.{and_from, and_parts, both_ways, cases_lt, eq-eqb, eqb-true}
-use Rattle.std.proofs.lemmas.Bool.{false_from_ne_true, lt-ltb, ltb-true, not-true, not_from_false}
-use Rattle.std.proofs.lemmas.List.Elements.{All-from_get_or}
+use Rattle.mat_check.proofs.Common.{◌≡◌, ℕ, ◌<◌, ◌-◌, ◌*◌, ◌&&◌, true, eqb, List, [], ◌∷◌, ◌++◌, length, get_or, inl, inr, refl, sym, subst, ◌∙◌, arith, and_from, and_parts, both_ways, cases_lt, eq-eqb, eqb-true, false_from_ne_true, lt-ltb, ltb-true, not-true, not_from_false, All-from_get_or}
+use Rattle.mat_check.proofs.Common.{ends_of, entering, enters, IsGraph, IsSpanningArborescence, IsUnentered, all_below, is_member, IsSet, Weight, is_member-entering, below_member, is_member-all_below, IsSet-all_below, member_from_some, some_from_member, part_at, crossing, AreTrees, IsRightPartition}
+use Rattle.mat_check.proofs.Common.{AreDisjointArborescences, IsSeldomEntered, spanning_is_told, graph, rooted, disjoint, disjoint_none, trees, trees_none, unreached, clauses_of, Clause, numbered_clauses, missed_clauses, overlap_clauses, arborescence_clause, crossing_clause, disjoint_clauses}
+use Rattle.mat_check.proofs.Common.{partition_clauses, seldom_entered_clauses, some_clause, tree_clause, trees_clauses}
 use Rattle.std.specs.List.{All}
-use Rattle.mat_sets.specs.Graphs.{ends_of, entering, enters, IsGraph, IsSpanningArborescence, IsUnentered}
-use Rattle.mat_sets.specs.Sets.{all_below, is_member, IsSet}
-use Rattle.mat_sets.specs.declared.weight.Weight.{Weight}
-use Rattle.mat_sets.proofs.Crossings.{is_member-entering}
-use Rattle.mat_sets.proofs.Ground.{below_member, is_member-all_below, IsSet-all_below}
-use Rattle.mat_sets.proofs.Members.{member_from_some, some_from_member}
-use Rattle.mat_union.specs.Unions.{part_at}
-use Rattle.mat_packing.specs.Trees.{crossing, AreTrees, IsRightPartition}
 use Rattle.mat_packing.proofs.SpanningTrees.{spanning_tree_from, spanning_tree_gives}
-use Rattle.mat_branch.specs.Arborescences.{AreDisjointArborescences, IsSeldomEntered}
-use Rattle.mat_branch.proofs.SpanningTests.{spanning_is_told}
-use Rattle.mat_problem.specs.Instances.{graph, rooted}
-use Rattle.mat_cert.specs.Certificates.{disjoint, disjoint_none, trees, trees_none, unreached}
-use Rattle.mat_check.specs.AnswerClauses.{clauses_of}
-use Rattle.mat_check.specs.Clauses.{Clause, numbered_clauses}
-use Rattle.mat_check.specs.SetClauses.{missed_clauses, overlap_clauses}
-use Rattle.mat_check.specs.TreeClauses.{arborescence_clause, crossing_clause, disjoint_clauses, partition_clauses}
-use Rattle.mat_check.specs.TreeClauses.{seldom_entered_clauses, some_clause, tree_clause, trees_clauses}
 use Rattle.mat_check.proofs.AnswerForms.{RightHasNoFailure}
 use Rattle.mat_check.proofs.FirstFailures.{all_hold, none_fails, AllHold, AllHold-append, AllHold-back, AllHold-front}
 use Rattle.mat_check.proofs.NumberedFailures.{all_items_hold, each_holds}

@@ -1,25 +1,8 @@
 -- An answer on unions in range is right exactly where its clauses hold: those of the parts say that they are disjoint and independent, and
 -- those of the levels that their weights are the distinct ones, falling, and that their cuts show what they are to show.
-use Rattle.std.proofs.Common.{◌≡◌, ℕ, ◌<◌, Bool, not, ◌&&◌, ltb, List, [], ◌∷◌, ◌++◌, length, map, sym, ◌∙◌, subst}
-use Rattle.std.proofs.lemmas.Bool.{and_from, and_parts, eq-eqb, eqb-true, lt-ltb}
-use Rattle.std.proofs.lemmas.List.{length-map}
-use Rattle.std.proofs.lemmas.List.Elements.{All-get_or}
-use Rattle.mat_sets.specs.Families.{family_union}
-use Rattle.mat_sets.specs.Sets.{is_member}
-use Rattle.mat_sets.specs.Weights.{is_below, is_same, weight, weight_at, zero_weight}
-use Rattle.mat_sets.specs.declared.weight.Weight.{Weight}
-use Rattle.mat_sets.proofs.Ground.{below_member}
-use Rattle.mat_sets.proofs.Search.{is_member-those_below}
-use Rattle.mat_sets.proofs.WeightOrder.{same_from, same_gives}
-use Rattle.mat_sets.specs.FallingWeights.{falling_weights, heavy}
-use Rattle.mat_union.specs.RightUnions.{IsLevelCut}
-use Rattle.mat_union.specs.Unions.{test_at}
-use Rattle.mat_cert.specs.Certificates.{IsRangedLevel, IsRangedUnion}
-use Rattle.mat_cert.specs.declared.answer.LevelLine.{LevelLine}
-use Rattle.mat_right.specs.Right.{level_of, IsRightUnionAnswer}
-use Rattle.mat_check.specs.Clauses.{Clause, failure_at, numbered_clauses}
-use Rattle.mat_check.specs.SetClauses.{independent_clause, level_clauses, level_cut_clause, outside_clause, overlap_clauses}
-use Rattle.mat_check.specs.SetClauses.{union_clauses}
+use Rattle.mat_check.proofs.Common.{◌≡◌, ℕ, ◌<◌, Bool, not, ◌&&◌, ltb, List, [], ◌∷◌, ◌++◌, length, map, sym, ◌∙◌, subst, and_from, and_parts, eq-eqb, eqb-true, lt-ltb, length-map, All-get_or, family_union, is_member, is_below, is_same, weight, weight_at, zero_weight, Weight, below_member}
+use Rattle.mat_check.proofs.Common.{is_member-those_below, same_from, same_gives, falling_weights, heavy, IsLevelCut, test_at, IsRangedLevel, IsRangedUnion, LevelLine, level_of, IsRightUnionAnswer, Clause, failure_at, numbered_clauses, independent_clause, level_clauses, level_cut_clause}
+use Rattle.mat_check.proofs.Common.{outside_clause, overlap_clauses, union_clauses}
 use Rattle.mat_check.specs.declared.reason.Reason.TheVariants as reasons
 use Rattle.mat_check.proofs.FallingLevels.{falling_from, falling_gives, level_is, line_at}
 use Rattle.mat_check.proofs.FirstFailures.{AllHold, AllHold-append, AllHold-at, AllHold-back, AllHold-front, AllHold-map}

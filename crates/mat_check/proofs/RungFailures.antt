@@ -1,11 +1,5 @@
 -- The first failures, rung by rung: the first of them in order is the first of all clauses.
-use Rattle.std.proofs.Common.{◌≡◌, ℕ, zero, suc, ◌+◌, ◌<◌, List, [], ◌∷◌, ◌++◌, length, get_or}
-use Rattle.std.proofs.Common.{Option, Some, None, slice_get, refl, sym, subst, ap, ◌∙◌, arith}
-use Rattle.std.proofs.lemmas.Option.{none-some, same_Some}
-use Rattle.mat_work.specs.Rows.{StandFrom}
-use Rattle.mat_work.proofs.StandingRows.{StandFrom_items}
-use Rattle.mat_check.specs.Clauses.{Clause, Failure, first_failure, numbered_clauses}
-use Rattle.mat_check.specs.RungFailures.{rungs_failures, first_in_order}
+use Rattle.mat_check.proofs.Common.{◌≡◌, ℕ, zero, suc, ◌+◌, ◌<◌, List, [], ◌∷◌, ◌++◌, length, get_or, Option, Some, None, slice_get, refl, sym, subst, ap, ◌∙◌, arith, none-some, same_Some, StandFrom, StandFrom_items, Clause, Failure, first_failure, numbered_clauses, rungs_failures, first_in_order}
 use Rattle.mat_check.proofs.FailingClauses.{first_in_back, first_in_front}
 
 first_of_joined : (front back : List Clause) (found : Option Failure) (failures : List (Option Failure)) → first_failure front ≡ found

@@ -1,8 +1,5 @@
 -- Equal tests have the same ladders.
-use Rattle.std.proofs.Common.{◌≡◌, ℕ, Bool, List, ap, ◌∙◌}
-use Rattle.mat_sets.specs.declared.weight.Weight.{Weight}
-use Rattle.mat_cert.specs.declared.answer.PricedRung.{PricedRung}
-use Rattle.mat_check.specs.Clauses.{ladder_clauses}
+use Rattle.mat_check.proofs.Common.{◌≡◌, ℕ, Bool, List, ap, ◌∙◌, Weight, PricedRung, ladder_clauses}
 
 pub same_ladder : (n m : ℕ) (p q first second : List ℕ → Bool) (w : List Weight) (rungs : List PricedRung) (cut : List ℕ)
     → n ≡ m → p ≡ first → q ≡ second → ladder_clauses n p q w rungs cut ≡ ladder_clauses m first second w rungs cut

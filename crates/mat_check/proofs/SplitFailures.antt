@@ -1,9 +1,5 @@
 -- The first failure of a split: that of the sums of its two halves, or that a heavier set is there under the first half or under the second.
-use Rattle.std.proofs.Common.{◌≡◌, ℕ, Bool, true, false, not, List, [], ◌∷◌, ◌++◌, Some, None, ap, sym, ◌∙◌}
-use Rattle.mat_sets.specs.Weights.{weight_at}
-use Rattle.mat_sets.specs.declared.weight.Weight.{Weight}
-use Rattle.mat_laws.specs.Searches.{is_beaten}
-use Rattle.mat_check.specs.Clauses.{Clause, Failure, first_failure, heaviest_clause}
+use Rattle.mat_check.proofs.Common.{◌≡◌, ℕ, Bool, true, false, not, List, [], ◌∷◌, ◌++◌, Some, None, ap, sym, ◌∙◌, weight_at, Weight, is_beaten, Clause, Failure, first_failure, heaviest_clause}
 use Rattle.mat_check.proofs.FailingClauses.{first_in_back, first_in_front, first_of_failing, first_of_holding}
 
 module _ (sums : List Clause) (n : ℕ) (p q : List ℕ → Bool) (first second : List Weight) (k : ℕ) (set : List ℕ) where

@@ -1,11 +1,5 @@
 -- The first clause of disjoint spanning trees or arborescences that fails: an overlap, or else a set that is none of these.
-use Rattle.std.proofs.Common.{◌≡◌, ℕ, List, [], ◌∷◌, ◌++◌, length, Option, Some, None, sym, ap, ◌∙◌}
-use Rattle.mat_sets.specs.Graphs.{ends_of}
-use Rattle.mat_flow.specs.Digraphs.{DirectedGraph}
-use Rattle.mat_graphic.specs.declared.graphic.Graphic.{Graphic}
-use Rattle.mat_check.specs.Clauses.{first_failure, numbered_clauses, Clause, Failure}
-use Rattle.mat_check.specs.SetClauses.{overlap_clauses}
-use Rattle.mat_check.specs.TreeClauses.{arborescence_clause, tree_clause}
+use Rattle.mat_check.proofs.Common.{◌≡◌, ℕ, List, [], ◌∷◌, ◌++◌, length, Option, Some, None, sym, ap, ◌∙◌, ends_of, DirectedGraph, Graphic, first_failure, numbered_clauses, Clause, Failure, overlap_clauses, arborescence_clause, tree_clause}
 use Rattle.mat_check.proofs.FailingClauses.{first_in_back, first_in_front}
 
 module _ (n : ℕ) (sets : List (List ℕ)) (each : List Clause) (told : ℕ) (found : Option Failure) (few : told ≡ n)

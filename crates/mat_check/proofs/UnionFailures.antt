@@ -1,9 +1,5 @@
 -- The first failure of a union: overlaps, the parts one by one, the weight, the levels. It is the first of one of these where none before it fails.
-use Rattle.std.proofs.Common.{◌≡◌, ℕ, Bool, true, false, List, ◌∷◌, length, Some, None}
-use Rattle.mat_sets.specs.declared.weight.Weight.{Weight}
-use Rattle.mat_cert.specs.declared.answer.LevelLine.{LevelLine}
-use Rattle.mat_check.specs.Clauses.{Clause, Failure, first_failure}
-use Rattle.mat_check.specs.SetClauses.{overlap_clauses, union_clauses}
+use Rattle.mat_check.proofs.Common.{◌≡◌, ℕ, Bool, true, false, List, ◌∷◌, length, Some, None, Weight, LevelLine, Clause, Failure, first_failure, overlap_clauses, union_clauses}
 use Rattle.mat_check.proofs.JoinedClauses.{in_first, in_second, third_begins, third_fails}
 use Rattle.mat_check.proofs.RightUnions.{all_levels, all_parts, weight_clause}
 

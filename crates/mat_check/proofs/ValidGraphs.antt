@@ -1,13 +1,6 @@
 -- A valid problem states a graph, a colouring or a table indeed: ends, colours and places are within their numbers, and there are few of them.
-use Rattle.std.proofs.Common.{ℕ, ◌<◌, ◌≤◌, List, length, arith}
+use Rattle.mat_check.proofs.Common.{ℕ, ◌<◌, ◌≤◌, List, length, arith, IsGraph, Weight, AreCells, IsColouring, ArePairs, IsValid, graph, rooted, coloured, table, IsGraph-pairs}
 use Rattle.mat_sets.specs.Limits.{most_elements}
-use Rattle.mat_sets.specs.Graphs.{IsGraph}
-use Rattle.mat_sets.specs.declared.weight.Weight.{Weight}
-use Rattle.mat_fronts.specs.Assignments.{AreCells}
-use Rattle.mat_fronts.specs.Rainbow.{IsColouring}
-use Rattle.mat_problem.specs.Validity.{ArePairs, IsValid}
-use Rattle.mat_problem.specs.Instances.{graph, rooted, coloured, table}
-use Rattle.mat_problem.proofs.SoundProblems.{IsGraph-pairs}
 
 -- few pairs with both numbers below that of the vertices
 graph_of_pairs : (vertices : ℕ) (edges : List (ℕ × ℕ)) → ArePairs vertices vertices edges → IsGraph vertices edges

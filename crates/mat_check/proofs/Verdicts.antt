@@ -1,13 +1,5 @@
 -- A verdict that tells the first clause that fails is Yes exactly where the answer is right.
-use Rattle.std.proofs.Common.{◌≡◌, ◌↔◌, true, refl, sym, ap, ◌∙◌}
-use Rattle.std.proofs.lemmas.Option.{none-some}
-use Rattle.mat_problem.specs.Validity.{IsValid}
-use Rattle.mat_problem.specs.Instances.{Instance}
-use Rattle.mat_cert.specs.Certificates.{Certificate, IsRanged}
-use Rattle.mat_right.specs.Right.{IsRight}
-use Rattle.mat_check.specs.AnswerClauses.{failure_of}
-use Rattle.mat_check.specs.Clauses.{failure_at}
-use Rattle.mat_check.specs.Fitting.{fits}
+use Rattle.mat_check.proofs.Common.{◌≡◌, ◌↔◌, true, refl, sym, ap, ◌∙◌, none-some, IsValid, Instance, Certificate, IsRanged, IsRight, failure_of, failure_at, fits}
 use Rattle.mat_check.specs.Views.{failure_in}
 use Rattle.mat_check.specs.declared.verdict.Verdict.{Verdict}
 use Rattle.mat_check.specs.declared.verdict.Verdict.TheVariants.{Yes, No}

@@ -1,19 +1,14 @@
 -- Reading a list of jobs: the words of a line are text, no more than the first seven of them matter, and the lines are read one job after the
 -- other, as a loop reads them: the jobs so far, in front of those that are still read, are the jobs that are read in all.
-use Rattle.std.proofs.Common.{◌≡◌, ℕ, zero, suc, ◌-◌, ◌+◌, ◌≤◌, ◌<◌, Bool, true, false, not, cond, eqb, List, [], ◌∷◌, ◌++◌, length}
-use Rattle.std.proofs.Common.{take, Option, Some, None, Result, Ok, Err, refl, sym, ap, subst, ◌∙◌, arith, append_assoc}
-use Rattle.std.specs.Prelude.{IfOk, IfErr}
+use Rattle.mat_command.proofs.Common.{◌≡◌, ℕ, zero, suc, ◌-◌, ◌+◌, ◌≤◌, ◌<◌, Bool, true, false, not, cond, eqb, List, [], ◌∷◌, ◌++◌, length, take, Option, Some, None, Result, Ok, Err, refl, sym, ap, subst, ◌∙◌, arith, append_assoc, IfOk, IfErr, append-nil, take_all, take-append-le, WordsLeft}
+use Rattle.mat_command.proofs.Common.{LinesLeft, is_word, words_of, is_well_spaced, Job, on_line, ended, with_job, job_before, is_head, is_end, job_of_line, jobs_at, most_jobs, jobs_of}
 use Rattle.std.specs.List.{list_all}
 use Rattle.std.proofs.lemmas.Bool.{not-false}
-use Rattle.std.proofs.lemmas.List.{append-nil, take_all, take-append-le}
-use Rattle.mat_words.specs.Cursors.{WordsLeft, LinesLeft}
 use Rattle.mat_words.specs.Lines.{lines_of}
-use Rattle.mat_words.specs.Words.{is_word, words_of, is_well_spaced}
 use Rattle.mat_words.specs.Reading.{Fault, line_from, line_at, is_closed}
 use Rattle.mat_words.specs.Steps.{◌>>=◌}
 use Rattle.mat_words.specs.declared.refusal.ReadingFault.TheVariants.{EndsEarly, BadByte, NoWord}
 use Rattle.mat_words.proofs.ReadingSteps.{found-same, refused_found}
-use Rattle.mat_command.specs.JobLists.{Job, on_line, ended, with_job, job_before, is_head, is_end, job_of_line, jobs_at, most_jobs, jobs_of}
 use Rattle.mat_command.specs.JobLines.{Fails, Gives, HasNoJobs, kept_words, words_at, head_at, no_job, some_job, job_at}
 use Rattle.mat_command.specs.declared.refusal.ListRefusal.{ListRefusal}
 use Rattle.mat_command.specs.declared.refusal.ListRefusal.TheVariants.{Line, Memory}

@@ -1,3 +1,4 @@
+pub mod Common
 mod Options
 mod JobReading
 mod NoCommands

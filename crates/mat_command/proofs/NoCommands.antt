@@ -1,5 +1,5 @@
 -- Words that are no command: too few of them, or too many.
-use Rattle.std.proofs.Common.{◌≡◌, ◌<◌, ℕ, List, [], ◌∷◌, length, map, None, refl, arith}
+use Rattle.mat_command.proofs.Common.{◌≡◌, ◌<◌, ℕ, List, [], ◌∷◌, length, map, None, refl, arith}
 use Rattle.mat_command.specs.CommandLines.{task_for, with_option}
 
 pub no_arguments : {X : Type 0} (words_of : X → List ℕ) (command : List ℕ) (items : List X) → length items < 1

@@ -1,7 +1,6 @@
 -- The option gives a command its number of workers, and changes nothing of what it asks for.
-use Rattle.std.proofs.Common.{◌≡◌, ℕ, Bool, true, false, List, [], ◌∷◌, Option, Some, None, pos, refl, arith}
+use Rattle.mat_command.proofs.Common.{◌≡◌, ℕ, Bool, true, false, List, [], ◌∷◌, Option, Some, None, pos, refl, arith, IfSome, bytes_eq, codes, option_map, if◌then◌else◌}
 use Rattle.std.proofs.lemmas.Int.{ints}
-use Rattle.std.specs.Prelude.{IfSome, bytes_eq, codes, option_map, if◌then◌else◌}
 use Rattle.mat_sets.specs.Limits.{most_elements, most_trees}
 use Rattle.mat_work.specs.Workers.{AreWorkers, most_workers}
 use Rattle.mat_words.specs.Numbers.{numeral}

@@ -1,20 +1,9 @@
 -- The exchanges at an independent set of a partition matroid: x puts one more member into its own class alone, and an exchange for y takes
 -- one out of the class of y; so where the class of x is full, y has to stand in it, and else every y will do.
-use Rattle.std.proofs.Common.{◌≡◌, ℕ, ◌+◌, ◌<◌, ◌≤◌, Bool, true, false, List, [], length, get_or, ◌⊎◌, inl, inr, refl, sym, ap, ◌∙◌, arith}
-use Rattle.std.proofs.lemmas.Bool.{cases_Bool, both_ways, and_parts, and_from, false_from_ne_true}
-use Rattle.mat_sets.specs.Sets.{is_member, AllBelow, IsRising, IsSet, with_one, without_one, intersection}
-use Rattle.mat_sets.specs.SetTests.{is_set}
-use Rattle.mat_sets.specs.Families.{indicator}
-use Rattle.mat_sets.proofs.Members.{filter_same_at, IsRising-without_one, set_members}
+use Rattle.mat_count.proofs.Common.{◌≡◌, ℕ, ◌+◌, ◌<◌, ◌≤◌, Bool, true, false, List, [], length, get_or, ◌⊎◌, inl, inr, refl, sym, ap, ◌∙◌, arith, cases_Bool, both_ways, and_parts, and_from, false_from_ne_true, is_member, AllBelow, IsRising, IsSet, with_one, without_one, intersection, is_set}
+use Rattle.mat_count.proofs.Common.{indicator, filter_same_at, IsRising-without_one, set_members, IsSet-with_one, IsSet-without_one, IsSet-from_test, test_from-IsSet, filter_whole, Exchange, row_of, row_outside, is_within_caps, IsWithinCaps, is_counted, IsWithinCaps-from_test}
+use Rattle.mat_count.proofs.Common.{test_from-IsWithinCaps, counted_more, counted_same}
 use Rattle.mat_sets.proofs.Changes.{with_one-returned}
-use Rattle.mat_sets.proofs.Ground.{IsSet-with_one, IsSet-without_one}
-use Rattle.mat_sets.proofs.SetTests.{IsSet-from_test, test_from-IsSet}
-use Rattle.mat_sets.proofs.Filters.{filter_whole}
-use Rattle.mat_laws.specs.declared.exchange.Exchange.{Exchange}
-use Rattle.mat_laws.specs.Exchanges.{row_of}
-use Rattle.mat_laws.proofs.Rows.{row_outside}
-use Rattle.mat_count.specs.Counts.{is_within_caps, IsWithinCaps, is_counted}
-use Rattle.mat_count.specs.LaminarLaws.{IsWithinCaps-from_test, test_from-IsWithinCaps, counted_more, counted_same}
 
 -- ---- counts in one set
 

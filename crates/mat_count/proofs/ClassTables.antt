@@ -1,20 +1,9 @@
 -- Tables of the classes of elements, and the numbers that are read off them: each loop begins well, and goes on well.
-use Rattle.std.proofs.Common.{◌≡◌, ℕ, ◌+◌, ◌<◌, ◌≤◌, ◌≢◌, ◌↔◌, Bool, true, false, cond, ◌||◌, not, eqb, List, [], length, get_or, set, take, length-take, replicate, Option, Some, None, refl, sym, ap, ◌∙◌, inl, inr, arith}
-use Rattle.std.proofs.lemmas.Bool.{cases_Bool, cases_eq, cases_lt, cases_order, both_ways, eq-eqb, ne_eqb, and_parts, false_from_ne_true}
-use Rattle.std.proofs.lemmas.List.{get_or-take, get_or_past, get_or-set_same, get_or-set_other, get_or-replicate, get_or_default, length-set, length-replicate}
+use Rattle.mat_count.proofs.Common.{◌≡◌, ℕ, ◌+◌, ◌<◌, ◌≤◌, ◌≢◌, ◌↔◌, Bool, true, false, cond, ◌||◌, not, eqb, List, [], length, get_or, set, take, length-take, replicate, Option, Some, None, refl, sym, ap, ◌∙◌, inl, inr, arith, cases_Bool, cases_eq, cases_lt, cases_order, both_ways, eq-eqb, ne_eqb}
+use Rattle.mat_count.proofs.Common.{and_parts, false_from_ne_true, get_or-take, get_or_past, get_or-set_same, get_or-set_other, get_or-replicate, get_or_default, length-set, length-replicate, get_or-set_at, is_member, IsRising, AllBelow, intersection, is_set, is_set-true, intersection-more}
+use Rattle.mat_count.proofs.Common.{is_member-take_more, AllBelow-at, intersection-none, AreDisjoint, indicator, names, IsClassTable, IsClassEntered, CountsMembers, is_within_caps, is_counted, IsWithinCaps-from_test, test_from-IsWithinCaps}
 use Rattle.std.proofs.lemmas.List.Filters.{length-filter_both}
-use Rattle.std.proofs.lemmas.Grind.{get_or-set_at}
-use Rattle.mat_sets.specs.Sets.{is_member, IsRising, AllBelow, intersection}
-use Rattle.mat_sets.specs.SetTests.{is_set}
-use Rattle.mat_sets.proofs.SetTests.{is_set-true}
-use Rattle.mat_sets.proofs.Steps.{intersection-more, is_member-take_more}
-use Rattle.mat_sets.proofs.Sums.{AllBelow-at}
-use Rattle.mat_sets.proofs.Members.{intersection-none}
-use Rattle.mat_sets.specs.Families.{AreDisjoint, indicator}
 use Rattle.mat_sets.proofs.Families.{disjoint-apart}
-use Rattle.mat_count.specs.Partitions.{names, IsClassTable, IsClassEntered, CountsMembers}
-use Rattle.mat_count.specs.Counts.{is_within_caps, is_counted}
-use Rattle.mat_count.specs.LaminarLaws.{IsWithinCaps-from_test, test_from-IsWithinCaps}
 
 -- ---- entering one class
 

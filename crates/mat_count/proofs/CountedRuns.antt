@@ -1,18 +1,7 @@
 -- Greedy runs by counters: an element enters where no listed set that holds it is full, and is then counted in each of them; so the numbers
 -- stay those of the members, and a full set never gets one more.
-use Rattle.std.proofs.Common.{◌≡◌, ℕ, ◌+◌, ◌<◌, ◌≤◌, true, false, not, List, [], length, get_or, replicate, sym, ap, ◌∙◌, subst, arith}
-use Rattle.std.proofs.lemmas.Bool.{and_parts, not-false}
-use Rattle.mat_sets.specs.Sets.{is_member, IsSet, with_one, intersection}
-use Rattle.mat_sets.specs.SetTests.{is_set}
-use Rattle.mat_sets.specs.Families.{indicator}
-use Rattle.mat_sets.proofs.Ground.{IsSet-length}
-use Rattle.mat_sets.proofs.Members.{with_one-member}
-use Rattle.mat_sets.proofs.SetTests.{IsSet-from_test}
-use Rattle.mat_laws.proofs.GreedyRunSteps.{IsRunning, IsRunning-start}
-use Rattle.mat_count.specs.Counts.{is_within_caps, is_counted}
-use Rattle.mat_count.specs.Laminar.{IsLaminarFamily}
-use Rattle.mat_count.specs.LaminarLaws.{counted_laws}
-use Rattle.mat_count.specs.Partitions.{CountsMembers}
+use Rattle.mat_count.proofs.Common.{◌≡◌, ℕ, ◌+◌, ◌<◌, ◌≤◌, true, false, not, List, [], length, get_or, replicate, sym, ap, ◌∙◌, subst, arith, and_parts, not-false, is_member, IsSet, with_one, intersection, is_set, indicator, IsSet-length, with_one-member, IsSet-from_test, IsRunning, IsRunning-start}
+use Rattle.mat_count.proofs.Common.{is_within_caps, is_counted, IsLaminarFamily, counted_laws, CountsMembers}
 use Rattle.mat_count.proofs.ClassRows.{counted-with_one}
 use Rattle.mat_count.proofs.ClassTables.{CountsMembers-none, length-intersection}
 use Rattle.mat_count.proofs.RunSteps.{run-passed, run-repeated, run-entered}

@@ -1,14 +1,9 @@
 -- A set is crossed by one of a list exactly where the search finds one. So a family in which no two sets cross grows by the sets that none
 -- of it crosses, and by no others.
-use Rattle.std.proofs.Common.{◌≡◌, ℕ, zero, suc, ◌<◌, true, false, ◌||◌, List, [], ◌∷◌, ◌++◌, length, get_or, length-append, Option, Some, None, inl, inr}
-use Rattle.std.proofs.Common.{refl, sym, ap, ap₂, ◌∙◌, arith}
-use Rattle.std.specs.Prelude.{MatchOption, is_some}
-use Rattle.std.proofs.lemmas.Bool.{cases_eq, both_ways, false_from_ne_true}
+use Rattle.mat_count.proofs.Common.{◌≡◌, ℕ, zero, suc, ◌<◌, true, false, ◌||◌, List, [], ◌∷◌, ◌++◌, length, get_or, length-append, Option, Some, None, inl, inr, refl, sym, ap, ap₂, ◌∙◌, arith, MatchOption, is_some, cases_eq, both_ways, false_from_ne_true, get_or_append_left, crosses, is_crossed}
+use Rattle.mat_count.proofs.Common.{IsLaminarFamily, IsFirstCrossing, NoneCrosses}
 use Rattle.std.proofs.Math.Bool.{or-true}
-use Rattle.std.proofs.lemmas.List.{get_or_append_left}
 use Rattle.std.proofs.Math.Seq.{get_or-append_seam}
-use Rattle.mat_count.specs.Laminar.{crosses, is_crossed, IsLaminarFamily}
-use Rattle.mat_count.specs.LaminarFaults.{IsFirstCrossing, NoneCrosses}
 
 -- no set of the list crosses the next
 crossed_none : (sets : List (List ℕ)) (next : List ℕ)

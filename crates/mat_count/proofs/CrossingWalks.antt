@@ -1,9 +1,5 @@
 -- Sets are looked at in order, and the first that an earlier one crosses is found.
-use Rattle.std.proofs.Common.{◌≡◌, ℕ, ◌+◌, ◌<◌, ◌≤◌, false, List, [], length, get_or, take, length-take, inl, inr, sym, ap, ◌∙◌, arith}
-use Rattle.std.proofs.lemmas.Bool.{cases_eq}
-use Rattle.std.proofs.lemmas.List.{get_or-take}
-use Rattle.mat_count.specs.Laminar.{crosses, IsLaminarFamily}
-use Rattle.mat_count.specs.LaminarFaults.{IsFirstCrossing, NoneCrosses, IsFirstPair}
+use Rattle.mat_count.proofs.Common.{◌≡◌, ℕ, ◌+◌, ◌<◌, ◌≤◌, false, List, [], length, get_or, take, length-take, inl, inr, sym, ap, ◌∙◌, arith, cases_eq, get_or-take, crosses, IsLaminarFamily, IsFirstCrossing, NoneCrosses, IsFirstPair}
 
 -- no two of the sets before b cross
 abbrev pub NestedBefore : List (List ℕ) → ℕ → Type 0

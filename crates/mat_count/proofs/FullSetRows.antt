@@ -1,22 +1,8 @@
 -- The row that the smallest full set tells: two listed sets that hold x are nested, so that a full set with fewest members of the base has no
 -- member that another full one that holds x lacks, and an exchange for each of its members leaves room in all of them.
-use Rattle.std.proofs.Common.{◌≡◌, ℕ, ◌<◌, ◌≤◌, Bool, true, false, cond, leb, List, [], length, get_or, Option, Some, None, ◌⊎◌, inl, inr, refl, sym, ap, ◌∙◌, subst, arith}
-use Rattle.std.proofs.lemmas.Bool.{cases_lt, cases_order, both_ways, ltb-false, le-leb, leb-true, eq-eqb, eqb-true}
-use Rattle.std.proofs.lemmas.List.{get_or_default, get_or_past}
-use Rattle.std.specs.Prelude.{⊤, MatchOption, is_some}
-use Rattle.mat_sets.specs.Sets.{is_member, AllBelow, IsRising, IsSubset, intersection}
-use Rattle.mat_sets.proofs.Members.{IsRising-intersection, set_members}
-use Rattle.mat_sets.proofs.Subsets.{subset_or, same_size_subset}
-use Rattle.mat_laws.specs.declared.exchange.Exchange.{Exchange}
-use Rattle.mat_laws.specs.Exchanges.{row_of}
-use Rattle.mat_count.specs.Counts.{is_counted}
-use Rattle.mat_count.specs.FullSets.{AreFullSets, IsSmallest, kept_at, has_fewer, row_at_place, row_of_size, where_full}
-use Rattle.mat_count.specs.Laminar.{crosses, IsLaminarFamily}
-use Rattle.mat_count.specs.LaminarLaws.{test_from-Crosses}
-use Rattle.mat_count.specs.LaminarMatroids.{CappedSets, IsLaminar, IsPlaceTable}
-use Rattle.mat_count.specs.PartitionLaws.{IsLaminarFamily-from_disjoint}
-use Rattle.mat_count.specs.Partitions.{names, CappedClasses, IsClassTable, IsPartition}
-use Rattle.mat_count.specs.declared.full_sets.FullSets.{FullSets}
+use Rattle.mat_count.proofs.Common.{◌≡◌, ℕ, ◌<◌, ◌≤◌, Bool, true, false, cond, leb, List, [], length, get_or, Option, Some, None, ◌⊎◌, inl, inr, refl, sym, ap, ◌∙◌, subst, arith, cases_lt, cases_order, both_ways, ltb-false, le-leb, leb-true, eq-eqb, eqb-true, get_or_default, get_or_past, ⊤}
+use Rattle.mat_count.proofs.Common.{MatchOption, is_some, is_member, AllBelow, IsRising, IsSubset, intersection, IsRising-intersection, set_members, subset_or, same_size_subset, Exchange, row_of, is_counted, AreFullSets, IsSmallest, kept_at, has_fewer, row_at_place, row_of_size, where_full, crosses}
+use Rattle.mat_count.proofs.Common.{IsLaminarFamily, test_from-Crosses, CappedSets, IsLaminar, IsPlaceTable, IsLaminarFamily-from_disjoint, names, CappedClasses, IsClassTable, IsPartition, FullSets}
 use Rattle.mat_count.proofs.ClassRows.{IsOutside, IsOutside-from_test, row_with_room, row_at_full}
 use Rattle.mat_count.proofs.KeptSets.{not_itself}
 use Rattle.mat_count.proofs.PartitionRuns.{entry_known}

@@ -1,13 +1,6 @@
 -- What is kept of the full sets is collected set by set, and the smallest of some of them is looked for place by place.
-use Rattle.std.proofs.Common.{◌≡◌, ℕ, ◌+◌, ◌<◌, true, false, ◌||◌, eqb, List, [], ◌∷◌, ◌++◌, length, get_or, take, length-append, Option, Some, None, inl, inr, refl, sym, ap, ◌∙◌, arith}
-use Rattle.std.specs.Prelude.{⊤, MatchOption}
-use Rattle.std.proofs.lemmas.Bool.{cases_lt, both_ways, or_cases, eqb-true, eq-eqb, ltb-true, ltb-false, le-ltb, or_right}
-use Rattle.std.proofs.lemmas.List.{get_or_append_left, get_or_push}
-use Rattle.mat_sets.specs.Sets.{is_member}
-use Rattle.mat_sets.proofs.Steps.{is_member-take_more}
-use Rattle.mat_count.specs.FullSets.{AreFullSets, IsSmallest, kept_at, has_fewer, where_full}
-use Rattle.mat_count.specs.Partitions.{CountsMembers}
-use Rattle.mat_count.specs.declared.full_sets.FullSets.{FullSets}
+use Rattle.mat_count.proofs.Common.{◌≡◌, ℕ, ◌+◌, ◌<◌, true, false, ◌||◌, eqb, List, [], ◌∷◌, ◌++◌, length, get_or, take, length-append, Option, Some, None, inl, inr, refl, sym, ap, ◌∙◌, arith, ⊤, MatchOption, cases_lt, both_ways, or_cases, eqb-true, eq-eqb, ltb-true, ltb-false, le-ltb, or_right}
+use Rattle.mat_count.proofs.Common.{get_or_append_left, get_or_push, is_member, is_member-take_more, AreFullSets, IsSmallest, kept_at, has_fewer, where_full, CountsMembers, FullSets}
 
 -- ---- set by set
 

@@ -1,21 +1,11 @@
 -- Classes by a label are a partition, and what the matroid with a cap for each label says of the members of a set.
-use Rattle.std.proofs.Common.{◌≡◌, ◌≢◌, ℕ, suc, zero, ◌+◌, ◌<◌, ◌≤◌, Bool, true, false, ◌&&◌, ◌||◌, eqb, ltb, List, [], ◌∷◌, ◌++◌, length, get_or, map, ◌⊎◌, inl, inr, refl, sym, ap, ◌∙◌, subst, arith}
-use Rattle.std.proofs.lemmas.Bool.{cases_Bool, cases_order, eqb-true, eq-eqb, ne_eqb, both_ways, and_parts, and_from, lt-ltb, le-ltb, false≢true}
-use Rattle.std.proofs.lemmas.List.Elements.{All-from_get_or}
-use Rattle.mat_sets.specs.Families.{AreDisjoint, indicator, multiplicity}
+use Rattle.mat_count.proofs.Common.{◌≡◌, ◌≢◌, ℕ, suc, zero, ◌+◌, ◌<◌, ◌≤◌, Bool, true, false, ◌&&◌, ◌||◌, eqb, ltb, List, [], ◌∷◌, ◌++◌, length, get_or, map, ◌⊎◌, inl, inr, refl, sym, ap, ◌∙◌, subst, arith, cases_Bool, cases_order, eqb-true, eq-eqb, ne_eqb, both_ways, and_parts, and_from, lt-ltb}
+use Rattle.mat_count.proofs.Common.{le-ltb, false≢true, All-from_get_or, AreDisjoint, indicator, multiplicity, is_member, AllBelow, IsRising, IsSet, all_below, counted_from, intersection, with_one, is_set, below_member, length-map_all_below, get_or-map_all_below, map-all_below_more}
+use Rattle.mat_count.proofs.Common.{map-all_below_none, IsRising-intersection, IsRising-with_one, is_member-head, is_member-intersection, is_member-with_one, same_members, IsSet-from_test, test_from-IsSet, is_within_caps, IsWithinCaps-from_test, test_from-IsWithinCaps, labelled, classes_by, caps_by}
+use Rattle.mat_count.proofs.Common.{is_labelled, AreApart, IsPartition, or_none}
 use Rattle.mat_sets.specs.Search.{those_below}
-use Rattle.mat_sets.specs.Sets.{is_member, AllBelow, IsRising, IsSet, all_below, counted_from, intersection, with_one}
-use Rattle.mat_sets.specs.SetTests.{is_set}
-use Rattle.mat_sets.proofs.Ground.{below_member, length-map_all_below, get_or-map_all_below, map-all_below_more, map-all_below_none}
-use Rattle.mat_sets.proofs.Members.{IsRising-intersection, IsRising-with_one, is_member-head, is_member-intersection, is_member-with_one, same_members}
 use Rattle.mat_sets.proofs.Search.{IsSet-those_below, is_member-those_below}
-use Rattle.mat_sets.proofs.SetTests.{IsSet-from_test, test_from-IsSet}
-use Rattle.mat_count.specs.Counts.{is_within_caps}
-use Rattle.mat_count.specs.LaminarLaws.{IsWithinCaps-from_test, test_from-IsWithinCaps}
-use Rattle.mat_count.specs.Labels.{labelled, classes_by, caps_by, is_labelled, AreApart}
-use Rattle.mat_count.specs.Partitions.{IsPartition}
 use Rattle.mat_sets.proofs.OneToOne.{length-same, same-length}
-use Rattle.mat_sets.proofs.Truths.{or_none}
 
 -- ---- the lists of classes and of caps
 

@@ -1,13 +1,8 @@
 -- The partition matroids of labels as they are made: their classes and caps are those that the labels have, also where these are read off
 -- pairs.
-use Rattle.std.proofs.Common.{◌≡◌, ℕ, ◌<◌, Bool, List, length, get_or, map, replicate, sym, ap, ◌∙◌}
-use Rattle.std.proofs.lemmas.Grind.{same_number_lists}
-use Rattle.std.proofs.lemmas.List.{get_or-replicate, length-map, length-replicate}
+use Rattle.mat_count.proofs.Common.{◌≡◌, ℕ, ◌<◌, Bool, List, length, get_or, map, replicate, sym, ap, ◌∙◌, same_number_lists, get_or-replicate, length-map, length-replicate, is_counted, caps_by, classes_by, one_each, CappedClasses}
 use Rattle.std.proofs.Math.ListN.{get_or-map as get_or_map}
 use mathlib.Core.Path.{fun_ext}
-use Rattle.mat_count.specs.Counts.{is_counted}
-use Rattle.mat_count.specs.Labels.{caps_by, classes_by, one_each}
-use Rattle.mat_count.specs.Partitions.{CappedClasses}
 use Rattle.mat_count.proofs.LabelClasses.{caps_by-at, length-caps_by}
 
 -- a partition matroid as plain data, and its test

@@ -1,19 +1,9 @@
 -- Adding to an independent set of a laminar matroid: x can be added where no listed set that holds x is full. The table of places tells which
 -- sets hold an element.
-use Rattle.std.proofs.Common.{◌≡◌, ℕ, ◌<◌, ◌≤◌, true, false, eqb, List, [], length, get_or, inl, inr, refl, sym, ap, ◌∙◌, arith}
-use Rattle.std.proofs.lemmas.Bool.{cases_eq, cases_lt, both_ways, and_parts, and_from, le-leb, leb-true, eq-eqb, ne_eqb}
-use Rattle.std.proofs.lemmas.List.{get_or_past}
+use Rattle.mat_count.proofs.Common.{◌≡◌, ℕ, ◌<◌, ◌≤◌, true, false, eqb, List, [], length, get_or, inl, inr, refl, sym, ap, ◌∙◌, arith, cases_eq, cases_lt, both_ways, and_parts, and_from, le-leb, leb-true, eq-eqb, ne_eqb, get_or_past, is_member, with_one, intersection, some_member, is_member-filter}
+use Rattle.mat_count.proofs.Common.{is_counted, counted_more, CountsMembers, IsPlaceTable, is_full, no_member}
 use Rattle.std.specs.List.{filter}
-use Rattle.mat_sets.specs.Sets.{is_member, with_one, intersection}
-use Rattle.mat_sets.proofs.LevelSearch.{some_member}
-use Rattle.mat_sets.proofs.Members.{is_member-filter}
-use Rattle.mat_count.specs.Counts.{is_counted}
-use Rattle.mat_count.specs.LaminarLaws.{counted_more}
-use Rattle.mat_count.specs.Partitions.{CountsMembers}
-use Rattle.mat_count.specs.LaminarMatroids.{IsPlaceTable}
-use Rattle.mat_count.specs.Counters.{is_full}
 use Rattle.mat_count.proofs.ClassRows.{IsOutside, added_with_room, not_counted}
-use Rattle.mat_sets.proofs.DisjointSets.{no_member}
 
 -- the numbers are those of the members of I, and the table has the places of the sets that hold each element
 module _ {n : ℕ} {sets : List (List ℕ)} {caps I : List ℕ} {x : ℕ} (o : IsOutside n sets caps I x) (numbers : List ℕ)

@@ -1,12 +1,6 @@
 -- Greedy runs of laminar matroids: a new element fits exactly where none of the places that the table has for it is that of a full set.
-use Rattle.std.proofs.Common.{◌≡◌, ℕ, ◌+◌, ◌<◌, true, false, not, eqb, List, [], length, get_or, sym, ap, ◌∙◌}
-use Rattle.std.proofs.lemmas.Bool.{not-true}
+use Rattle.mat_count.proofs.Common.{◌≡◌, ℕ, ◌+◌, ◌<◌, true, false, not, eqb, List, [], length, get_or, sym, ap, ◌∙◌, not-true, is_member, with_one, indicator, is_counted, IsPlaceTable, is_full}
 use Rattle.std.specs.List.{filter}
-use Rattle.mat_sets.specs.Sets.{is_member, with_one}
-use Rattle.mat_sets.specs.Families.{indicator}
-use Rattle.mat_count.specs.Counts.{is_counted}
-use Rattle.mat_count.specs.LaminarMatroids.{IsPlaceTable}
-use Rattle.mat_count.specs.Counters.{is_full}
 use Rattle.mat_count.proofs.ClassRows.{IsOutside-from_test}
 use Rattle.mat_count.proofs.CountedRuns.{IsCounting, IsCounting-passed, IsCounting-entered}
 use Rattle.mat_count.proofs.LaminarRows.{added_at}

@@ -1,3 +1,4 @@
+pub mod Common
 pub mod ClassRows
 pub mod ClassTables
 pub mod CountedRuns

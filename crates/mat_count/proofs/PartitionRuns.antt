@@ -1,13 +1,6 @@
 -- Greedy runs of partition matroids: a new element fits exactly where the class that the table names for it is not full, by the counters.
-use Rattle.std.proofs.Common.{◌≡◌, ℕ, ◌+◌, ◌<◌, true, false, not, eqb, List, [], length, get_or, Option, Some, None, inl, inr, refl, sym, ap, ◌∙◌, subst, arith}
-use Rattle.std.specs.Prelude.{⊤, MatchOption}
-use Rattle.std.proofs.lemmas.Bool.{not-true, cases_eq, cases_lt, both_ways, eq-eqb, ne_eqb, le-leb, lt-leb}
-use Rattle.mat_sets.specs.Sets.{is_member, with_one, intersection}
-use Rattle.mat_sets.specs.Families.{indicator}
-use Rattle.mat_count.specs.Counters.{is_named_full}
-use Rattle.mat_count.specs.Counts.{is_counted}
-use Rattle.mat_count.specs.LaminarLaws.{counted_more}
-use Rattle.mat_count.specs.Partitions.{names, IsClassTable, CountsMembers}
+use Rattle.mat_count.proofs.Common.{◌≡◌, ℕ, ◌+◌, ◌<◌, true, false, not, eqb, List, [], length, get_or, Option, Some, None, inl, inr, refl, sym, ap, ◌∙◌, subst, arith, ⊤, MatchOption, not-true, cases_eq, cases_lt, both_ways, eq-eqb, ne_eqb, le-leb, lt-leb, is_member, with_one, intersection}
+use Rattle.mat_count.proofs.Common.{indicator, is_named_full, is_counted, counted_more, names, IsClassTable, CountsMembers}
 use Rattle.mat_count.proofs.ClassRows.{IsOutside, IsOutside-from_test, added_with_room, not_counted}
 use Rattle.mat_count.proofs.ClassTables.{named-inside}
 use Rattle.mat_count.proofs.CountedRuns.{IsCounting, IsCounting-passed, IsCounting-entered}

@@ -1,20 +1,9 @@
 -- Tables that list for each element the places of the sets that hold it, and the numbers that are read off them: each
 -- loop begins well, and goes on well.
-use Rattle.std.proofs.Common.{◌≡◌, ℕ, ◌+◌, ◌-◌, ◌<◌, ◌≤◌, Bool, true, false, ◌&&◌, ◌||◌, eqb, List, [], ◌∷◌, length, get_or, set, take, length-take, replicate, inl, inr, refl, sym, ap, ◌∙◌, subst, arith}
-use Rattle.std.proofs.lemmas.Bool.{cases_eq, cases_lt, cases_order, both_ways, eq-eqb, ne_eqb, or_right}
-use Rattle.std.proofs.lemmas.List.{get_or_past, get_or-set_same, get_or-set_other, get_or-replicate, get_or_default, length-replicate}
-use Rattle.std.proofs.lemmas.List.Elements.{All-get_or, All-from_get_or}
+use Rattle.mat_count.proofs.Common.{◌≡◌, ℕ, ◌+◌, ◌-◌, ◌<◌, ◌≤◌, Bool, true, false, ◌&&◌, ◌||◌, eqb, List, [], ◌∷◌, length, get_or, set, take, length-take, replicate, inl, inr, refl, sym, ap, ◌∙◌, subst, arith, cases_eq, cases_lt, cases_order, both_ways, eq-eqb, ne_eqb, or_right, get_or_past}
+use Rattle.mat_count.proofs.Common.{get_or-set_same, get_or-set_other, get_or-replicate, get_or_default, length-replicate, All-get_or, All-from_get_or, is_member, IsRising, AllBelow, with_one, intersection, indicator, AllBelow-from_members, RisesFrom-index, is_member-head, is_member-with_one}
+use Rattle.mat_count.proofs.Common.{place_of_member, intersection-more, is_member-take_more, is_member-take_next, AllBelow-at, or_none, SomeOutside, IsPlaced, IsPlaceTable, CountsMembers}
 use Rattle.std.specs.List.{All}
-use Rattle.mat_sets.specs.Sets.{is_member, IsRising, AllBelow, with_one, intersection}
-use Rattle.mat_sets.specs.Families.{indicator}
-use Rattle.mat_sets.proofs.Ground.{AllBelow-from_members}
-use Rattle.mat_sets.proofs.Members.{RisesFrom-index, is_member-head, is_member-with_one, place_of_member}
-use Rattle.mat_sets.proofs.Steps.{intersection-more, is_member-take_more, is_member-take_next}
-use Rattle.mat_sets.proofs.Sums.{AllBelow-at}
-use Rattle.mat_sets.proofs.Truths.{or_none}
-use Rattle.mat_count.specs.LaminarFaults.{SomeOutside}
-use Rattle.mat_count.specs.LaminarMatroids.{IsPlaced, IsPlaceTable}
-use Rattle.mat_count.specs.Partitions.{CountsMembers}
 use Rattle.mat_count.proofs.ClassTables.{before_place, CountsMembers-none, length-intersection, past_place}
 
 -- ---- ranges

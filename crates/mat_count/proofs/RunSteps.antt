@@ -1,9 +1,5 @@
 -- One element of a greedy run: it is left out where it does not fit, put in where it is new and fits, and putting it in again changes nothing.
-use Rattle.std.proofs.Common.{◌≡◌, ℕ, ◌+◌, ◌<◌, Bool, true, false, List, length, get_or, refl, sym, ◌∙◌, inl, inr}
-use Rattle.std.proofs.lemmas.Bool.{cases_Bool, both_ways}
-use Rattle.mat_sets.specs.Sets.{is_member, IsRising, with_one}
-use Rattle.mat_sets.proofs.Members.{with_one-member}
-use Rattle.mat_laws.proofs.GreedyRunSteps.{IsRunning, IsRunning-next}
+use Rattle.mat_count.proofs.Common.{◌≡◌, ℕ, ◌+◌, ◌<◌, Bool, true, false, List, length, get_or, refl, sym, ◌∙◌, inl, inr, cases_Bool, both_ways, is_member, IsRising, with_one, with_one-member, IsRunning, IsRunning-next}
 
 module _ {p : List ℕ → Bool} {order set : List ℕ} {i : ℕ} (r : IsRunning p order i set) (x : ℕ) (after : List ℕ)
     (inside : i < length order) (at : x ≡ get_or order i 0) where

@@ -1,15 +1,7 @@
 -- Two sets that share a member, and of which neither lies inside the other, cross.
-use Rattle.std.proofs.Common.{◌≡◌, ◌↔◌, ℕ, ◌≤◌, Bool, true, false, not, Option, Some, None, refl, ◌&&◌, List, [], inl, inr, sym, ◌∙◌, arith}
-use Rattle.std.specs.Prelude.{is_some}
-use Rattle.std.proofs.lemmas.Bool.{and_from, and_parts, both_ways, false_from_ne_true}
-use Rattle.std.proofs.lemmas.List.{nil_from_length}
+use Rattle.mat_count.proofs.Common.{◌≡◌, ◌↔◌, ℕ, ◌≤◌, Bool, true, false, not, Option, Some, None, refl, ◌&&◌, List, [], inl, inr, sym, ◌∙◌, arith, is_some, and_from, and_parts, both_ways, false_from_ne_true, nil_from_length, is_member, intersection, IsSubset, some_member, is_member-filter}
+use Rattle.mat_count.proofs.Common.{subset_or, crosses, Crosses-from_test, test_from-Crosses}
 use Rattle.mat_sets.specs.Search.{IsNextFrom}
-use Rattle.mat_sets.specs.Sets.{is_member, intersection, IsSubset}
-use Rattle.mat_sets.proofs.LevelSearch.{some_member}
-use Rattle.mat_sets.proofs.Members.{is_member-filter}
-use Rattle.mat_sets.proofs.Subsets.{subset_or}
-use Rattle.mat_count.specs.Laminar.{crosses}
-use Rattle.mat_count.specs.LaminarLaws.{Crosses-from_test, test_from-Crosses}
 
 pub crosses-apart : (A B : List ℕ) → ((x : ℕ) → 0 ≤ x → (is_member x A && is_member x B) ≡ false) → crosses A B ≡ false
 crosses-apart A B none = false_from_ne_true (crosses A B) (λ h.

@@ -1,18 +1,8 @@
 -- The exchanges at an independent set of a uniform matroid: an exchange leaves the number of elements as it is, so that every member can be
 -- exchanged, and one more element fits exactly below the cap.
-use Rattle.std.proofs.Common.{◌≡◌, ℕ, ◌<◌, true, false, ◌&&◌, leb, ltb, List, length, sym, ap, ◌∙◌, arith}
-use Rattle.std.proofs.lemmas.Bool.{and_parts, and_from}
+use Rattle.mat_count.proofs.Common.{◌≡◌, ℕ, ◌<◌, true, false, ◌&&◌, leb, ltb, List, length, sym, ap, ◌∙◌, arith, and_parts, and_from, is_member, with_one, without_one, IsSet, is_set, filter_whole, IsSet-without_one, IsSet-from_test, is_set-with_one, Exchange, row_of, row_outside, is_uniform}
 use Rattle.std.proofs.lemmas.Bool.Decides.{nat_tests}
-use Rattle.mat_sets.specs.Sets.{is_member, with_one, without_one, IsSet}
-use Rattle.mat_sets.specs.SetTests.{is_set}
 use Rattle.mat_sets.proofs.Cardinalities.{length-with_one, length-exchange_one}
-use Rattle.mat_sets.proofs.Filters.{filter_whole}
-use Rattle.mat_sets.proofs.Ground.{IsSet-without_one}
-use Rattle.mat_sets.proofs.SetTests.{IsSet-from_test, is_set-with_one}
-use Rattle.mat_laws.specs.declared.exchange.Exchange.{Exchange}
-use Rattle.mat_laws.specs.Exchanges.{row_of}
-use Rattle.mat_laws.proofs.Rows.{row_outside}
-use Rattle.mat_count.specs.Counts.{is_uniform}
 
 -- one more element fits exactly below the cap
 pub uniform-with_one : (n cap : ℕ) (I : List ℕ) (x : ℕ) → IsSet n I → x < n → is_member x I ≡ false

@@ -1,11 +1,5 @@
 -- Greedy runs of uniform matroids: each new element enters while the set has fewer elements than the cap.
-use Rattle.std.proofs.Common.{◌≡◌, ℕ, ◌+◌, ◌<◌, ◌≤◌, leb, List, length, get_or, ◌∙◌, inl, inr}
-use Rattle.std.proofs.lemmas.Bool.{cases_Bool, and_parts, lt-ltb, le-ltb}
-use Rattle.mat_sets.specs.Sets.{is_member, IsSet, with_one}
-use Rattle.mat_sets.specs.SetTests.{is_set}
-use Rattle.mat_sets.proofs.SetTests.{IsSet-from_test}
-use Rattle.mat_laws.proofs.GreedyRunSteps.{IsRunning}
-use Rattle.mat_count.specs.Counts.{is_uniform}
+use Rattle.mat_count.proofs.Common.{◌≡◌, ℕ, ◌+◌, ◌<◌, ◌≤◌, leb, List, length, get_or, ◌∙◌, inl, inr, cases_Bool, and_parts, lt-ltb, le-ltb, is_member, IsSet, with_one, is_set, IsSet-from_test, IsRunning, is_uniform}
 use Rattle.mat_count.proofs.RunSteps.{run-passed, run-repeated, run-entered}
 use Rattle.mat_count.proofs.UniformRows.{uniform-with_one}
 

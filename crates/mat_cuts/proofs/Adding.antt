@@ -1,17 +1,8 @@
 -- The weights of cuts added at arcs, one cut after the other, and how large the sums are.
-use Rattle.std.proofs.Common.{◌≡◌, ℕ, ◌+◌, ◌*◌, ◌<◌, ◌≤◌, Bool, true, false, List, [], ◌∷◌, ◌++◌, length, get_or, set, take, inl, inr, ap, ◌∙◌, arith, ℤ, pos, ◌+ℤ◌}
-use Rattle.std.proofs.lemmas.Bool.{cases_eq}
-use Rattle.std.proofs.lemmas.Int.{ints}
-use Rattle.std.proofs.lemmas.List.{get_or-set_other, get_or-set_same, length-set, take_more}
+use Rattle.mat_cuts.proofs.Common.{◌≡◌, ℕ, ◌+◌, ◌*◌, ◌<◌, ◌≤◌, Bool, true, false, List, [], ◌∷◌, ◌++◌, length, get_or, set, take, inl, inr, ap, ◌∙◌, arith, ℤ, pos, ◌+ℤ◌, cases_eq, ints, get_or-set_other, get_or-set_same, length-set, take_more, largest_number, enters, IsWithin, IsCutInRange, cost_at}
+use Rattle.mat_cuts.proofs.Common.{all_weight, weight_on, weight_where, CutWeight}
 use Rattle.std.specs.List.{AllByRecursion}
-use Rattle.mat_sets.specs.Limits.{largest_number}
-use Rattle.mat_sets.specs.Graphs.{enters}
-use Rattle.mat_sets.specs.Sums.{IsWithin}
-use Rattle.mat_cuts.specs.Answers.{IsCutInRange}
 use Rattle.mat_cuts.specs.Checking.{IsAdded}
-use Rattle.mat_cuts.specs.Costs.{cost_at}
-use Rattle.mat_cuts.specs.Cuts.{all_weight, weight_on, weight_where}
-use Rattle.mat_cuts.specs.declared.cut_weight.CutWeight.{CutWeight}
 use Rattle.mat_cuts.proofs.Raises.{weight_on-push}
 
 -- ---- one weight at each arc

@@ -1,23 +1,8 @@
 -- Each spanning arborescence enters each root-free set, so that weights which the costs pay are together at most its cost.
-use Rattle.std.proofs.Common.{◌≡◌, ℕ, ◌≤◌, Bool, true, false, List, [], ◌∷◌, length, inl, inr, refl, arith, ℤ, pos, ◌≤ℤ◌, ◌<ℤ◌, All}
-use Rattle.std.proofs.lemmas.Bool.{cases_Bool, false≢true}
-use Rattle.std.proofs.lemmas.Int.{ints}
-use Rattle.std.proofs.lemmas.List.Elements.{All-get_or}
+use Rattle.mat_cuts.proofs.Common.{◌≡◌, ℕ, ◌≤◌, Bool, true, false, List, [], ◌∷◌, length, inl, inr, refl, arith, ℤ, pos, ◌≤ℤ◌, ◌<ℤ◌, All, cases_Bool, false≢true, ints, All-get_or, vertex_bound, largest_number, largest_weight, ends_of, enters, IsSpanningArborescence, is_member, sum_of, cost_at}
+use Rattle.mat_cuts.proofs.Common.{cost_of, IsCost, sum_of-high, sum_of-le, sum_of-plus, arborescence_enters, below_member, all_weight, weight_on, weight_where, AreRightCuts, IsWeightedCut, AreInRange, AreRight, IsCutInRange, Tree, Unreached, CutWeight}
 use Rattle.std.specs.List.{AllByRecursion}
-use Rattle.mat_cuts.specs.Limits.{vertex_bound}
-use Rattle.mat_sets.specs.Limits.{largest_number, largest_weight}
-use Rattle.mat_sets.specs.Graphs.{ends_of, enters, IsSpanningArborescence}
-use Rattle.mat_sets.specs.Sets.{is_member}
-use Rattle.mat_sets.specs.Sums.{sum_of}
-use Rattle.mat_cuts.specs.Costs.{cost_at, cost_of, IsCost}
-use Rattle.mat_sets.proofs.Cardinalities.{sum_of-high, sum_of-le, sum_of-plus}
-use Rattle.mat_sets.proofs.Crossings.{arborescence_enters}
-use Rattle.mat_sets.proofs.Ground.{below_member}
-use Rattle.mat_cuts.specs.Cuts.{all_weight, weight_on, weight_where, AreRightCuts, IsWeightedCut}
-use Rattle.mat_cuts.specs.Answers.{AreInRange, AreRight, IsCutInRange}
 use Rattle.mat_cuts.specs.declared.cut_weight.Cuts.{Cuts}
-use Rattle.mat_cuts.specs.declared.cut_weight.Cuts.TheVariants.{Tree, Unreached}
-use Rattle.mat_cuts.specs.declared.cut_weight.CutWeight.{CutWeight}
 
 module _ (ends : ℕ → ℕ × ℕ) where
   where-low : (b : Bool) (w : ℤ) → pos 0 <ℤ w → pos 0 ≤ℤ weight_where b w

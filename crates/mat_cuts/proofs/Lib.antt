@@ -1,3 +1,4 @@
+pub mod Common
 pub mod Bounds
 pub mod Paths
 pub mod Raises

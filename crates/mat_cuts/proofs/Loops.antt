@@ -1,25 +1,9 @@
 -- What the loops over arcs and vertices keep.
-use Rattle.std.proofs.Common.{if◌then◌else◌, ◌≡◌, ◌≢◌, ℕ, suc, ◌+◌, ◌<◌, ◌≤◌, ◌⊎◌, Bool, true, false, not, ◌&&◌, ◌||◌, eqb, List, [], ◌∷◌, ◌++◌, length, filter, get_or, replicate, set, take, Option, None, Some, MatchOption, inl, inr, refl, sym, ap, ◌∙◌, subst, arith, ℤ, pos, ◌+ℤ◌, ◌≤ℤ◌, ◌<ℤ◌, below_more}
-use Rattle.std.proofs.lemmas.Bool.{and_from, and_left, and_parts, both_ways, cases_eq, cases_lt, eq-eqb, eqb-true, false_from_ne_true, false≢true, lt-ltb, ne_eqb, or_cases, or_left, or_right}
-use Rattle.std.proofs.lemmas.Int.{ints}
-use Rattle.std.proofs.lemmas.List.{get_or-replicate, get_or-set_other, get_or-set_same, get_or_past, length-replicate, length-set, take_all}
-use Rattle.std.proofs.lemmas.List.Elements.{filter-append}
-use Rattle.mat_cuts.specs.Limits.{never}
-use Rattle.mat_sets.specs.Graphs.{ends_of}
-use Rattle.mat_sets.specs.Search.{those_below}
-use Rattle.mat_sets.specs.Sets.{all_below, is_member, IsRising, IsSet}
-use Rattle.mat_sets.proofs.Ground.{all_below-more, below_member}
-use Rattle.mat_sets.proofs.Members.{is_member-get_or}
-use Rattle.mat_sets.proofs.Search.{is_member-those_below, IsSet-those_below}
+use Rattle.mat_cuts.proofs.Common.{if◌then◌else◌, ◌≡◌, ◌≢◌, ℕ, suc, ◌+◌, ◌<◌, ◌≤◌, ◌⊎◌, Bool, true, false, not, ◌&&◌, ◌||◌, eqb, List, [], ◌∷◌, ◌++◌, length, filter, get_or, replicate, set, take, Option, None, Some, MatchOption, inl, inr, refl, sym, ap, ◌∙◌, subst, arith, ℤ, pos, ◌+ℤ◌, ◌≤ℤ◌, ◌<ℤ◌}
+use Rattle.mat_cuts.proofs.Common.{below_more, and_from, and_left, and_parts, both_ways, cases_eq, cases_lt, eq-eqb, eqb-true, false_from_ne_true, false≢true, lt-ltb, ne_eqb, or_cases, or_left, or_right, ints, get_or-replicate, get_or-set_other, get_or-set_same, get_or_past, length-replicate}
+use Rattle.mat_cuts.proofs.Common.{length-set, take_all, filter-append, never, ends_of, those_below, all_below, is_member, IsRising, IsSet, all_below-more, below_member, is_member-get_or, is_member-those_below, IsSet-those_below, AllBelow-at, and_not_none, cost_at, weight_where, leaves}
+use Rattle.mat_cuts.proofs.Common.{TellsEarliest, IsPaid, at, comes, falls, IsFirstTime, IsLeast, IsLeastOf, IsLowered, Raised}
 use Rattle.mat_sets.proofs.Steps.{is_member-take_more, is_member-take_next}
-use Rattle.mat_sets.proofs.Sums.{AllBelow-at}
-use Rattle.mat_sets.proofs.Truths.{and_not_none}
-use Rattle.mat_cuts.specs.Costs.{cost_at}
-use Rattle.mat_cuts.specs.Cuts.{weight_where}
-use Rattle.mat_cuts.specs.Growing.{leaves, TellsEarliest}
-use Rattle.mat_cuts.specs.Listing.{IsPaid}
-use Rattle.mat_cuts.specs.Raising.{at, comes, falls, IsFirstTime, IsLeast, IsLeastOf, IsLowered}
-use Rattle.mat_cuts.specs.declared.growing.Raised.{Raised}
 use Rattle.mat_cuts.proofs.Paths.{falls-cases}
 
 -- ---- loops over the arcs of a list

@@ -1,13 +1,7 @@
 -- What early arcs lead to, and how the path of joined sets grows and closes up.
-use Rattle.std.proofs.Common.{if◌then◌else◌, ◌≡◌, ◌≢◌, ℕ, ◌+◌, ◌<◌, ◌≤◌, ◌⊎◌, Bool, true, false, not, ◌&&◌, leb, eqb, List, length, inl, inr, refl, sym, ap, ◌∙◌, subst, arith}
+use Rattle.mat_cuts.proofs.Common.{if◌then◌else◌, ◌≡◌, ◌≢◌, ℕ, ◌+◌, ◌<◌, ◌≤◌, ◌⊎◌, Bool, true, false, not, ◌&&◌, leb, eqb, List, length, inl, inr, refl, sym, ap, ◌∙◌, subst, arith, and_parts, both_ways, cases_Bool, cases_eq, cases_lt, eq-eqb, false_from_ne_true, le-leb, ne_eqb, never, ends_of}
+use Rattle.mat_cuts.proofs.Common.{is_member, without_one, below_member, IsSet-without_one, is_member-without_one, at, falls, IsPath, Leads}
 use Rattle.std.proofs.lemmas.Bool.Decides.{nat_tests}
-use Rattle.std.proofs.lemmas.Bool.{and_parts, both_ways, cases_Bool, cases_eq, cases_lt, eq-eqb, false_from_ne_true, le-leb, ne_eqb}
-use Rattle.mat_cuts.specs.Limits.{never}
-use Rattle.mat_sets.specs.Graphs.{ends_of}
-use Rattle.mat_sets.specs.Sets.{is_member, without_one}
-use Rattle.mat_sets.proofs.Ground.{below_member, IsSet-without_one}
-use Rattle.mat_sets.proofs.Members.{is_member-without_one}
-use Rattle.mat_cuts.specs.Raising.{at, falls, IsPath, Leads}
 
 module _ (count : ℕ) (ends : ℕ → ℕ × ℕ) (since : List ℕ) (i : ℕ) where
   pub Leads-itself : (x : ℕ) → Leads count ends since i x x

@@ -1,16 +1,7 @@
 -- One raise: the last set of the path gets the least cost that is left at the arcs that enter it. What was nested stays nested, since only arcs
 -- without a time get one, and a later one than that of each listed set.
-use Rattle.std.proofs.Common.{◌≡◌, ℕ, suc, ◌+◌, ◌<◌, ◌≤◌, ◌⊎◌, true, List, [], ◌∷◌, ◌++◌, length, inl, inr, ◌∙◌, subst, arith, ℤ, pos, ◌+ℤ◌, ◌≤ℤ◌, ◌<ℤ◌, length-append}
-use Rattle.std.proofs.lemmas.Bool.{cases_Bool, cases_lt}
-use Rattle.std.proofs.lemmas.Int.{ints}
-use Rattle.mat_cuts.specs.Limits.{never}
-use Rattle.mat_sets.specs.Graphs.{ends_of, enters, IsRootFree}
-use Rattle.mat_sets.specs.Sets.{is_member}
-use Rattle.mat_cuts.specs.Costs.{cost_at}
-use Rattle.mat_cuts.specs.Cuts.{weight_on, weight_where, IsWeightedCut}
-use Rattle.mat_cuts.specs.Raising.{at, AreNested, IsLowered, IsNested, IsRaised, Leads}
-use Rattle.mat_cuts.specs.declared.cut_weight.CutWeight.{CutWeight}
-use Rattle.mat_sets.proofs.EachItem.{AllByRecursion-push}
+use Rattle.mat_cuts.proofs.Common.{◌≡◌, ℕ, suc, ◌+◌, ◌<◌, ◌≤◌, ◌⊎◌, true, List, [], ◌∷◌, ◌++◌, length, inl, inr, ◌∙◌, subst, arith, ℤ, pos, ◌+ℤ◌, ◌≤ℤ◌, ◌<ℤ◌, length-append, cases_Bool, cases_lt, ints, never, ends_of, enters, IsRootFree, is_member, cost_at, weight_on, weight_where, IsWeightedCut, at}
+use Rattle.mat_cuts.proofs.Common.{AreNested, IsLowered, IsNested, IsRaised, Leads, CutWeight, AllByRecursion-push}
 use Rattle.mat_cuts.proofs.Paths.{Leads-later}
 
 pub weight_on-push : (ends : ℕ → ℕ × ℕ) (cuts : List CutWeight) (c : CutWeight) (a : ℕ)

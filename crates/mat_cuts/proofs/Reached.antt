@@ -1,14 +1,8 @@
 -- What arcs of a tree reach from the root: it grows by an arc that leaves it; where no arc leaves it, the tree reaches nothing else.
-use Rattle.std.proofs.Common.{◌≡◌, ℕ, suc, ◌+◌, ◌<◌, true, false, not, List, [], ◌∷◌, length, get_or, take, None, inl, inr, refl, sym, ap, ◌∙◌, subst, arith, eqb}
-use Rattle.std.proofs.lemmas.Bool.{and_parts, both_ways, eqb-true, eq-eqb, lt-ltb, ltb-true, or_cases, or_left, or_right, not-true}
-use Rattle.mat_sets.specs.Graphs.{DirectedWalk, IsSpanningArborescence, Reaches}
-use Rattle.mat_sets.specs.Sets.{all_below, is_member, with_one, IsSet, IsSubset}
-use Rattle.mat_sets.proofs.Cardinalities.{length-with_one}
-use Rattle.mat_sets.proofs.Ground.{is_member-all_below, length-all_below, IsRising-all_below, IsSet-with_one, IsSubset-all_below}
-use Rattle.mat_sets.proofs.Members.{is_member-head, is_member-with_one, only_member}
-use Rattle.mat_sets.proofs.Subsets.{larger_has, same_size_subset}
+use Rattle.mat_cuts.proofs.Common.{◌≡◌, ℕ, suc, ◌+◌, ◌<◌, true, false, not, List, [], ◌∷◌, length, get_or, take, None, inl, inr, refl, sym, ap, ◌∙◌, subst, arith, eqb, and_parts, both_ways, eqb-true, eq-eqb, lt-ltb, ltb-true, or_cases, or_left, or_right, not-true, DirectedWalk}
+use Rattle.mat_cuts.proofs.Common.{IsSpanningArborescence, Reaches, all_below, is_member, with_one, IsSet, IsSubset, length-with_one, is_member-all_below, length-all_below, IsRising-all_below, IsSet-with_one, IsSubset-all_below, is_member-head, is_member-with_one, only_member, larger_has}
+use Rattle.mat_cuts.proofs.Common.{same_size_subset, leaves, IsLeaving, TellsLeaving}
 use Rattle.mat_sets.proofs.Walking.{Reaches-arc, Reaches-itself, Reaches-subset, Reaches-trans}
-use Rattle.mat_cuts.specs.Growing.{leaves, IsLeaving, TellsLeaving}
 use Rattle.mat_cuts.proofs.Loops.{members_next, stays}
 
 -- the root put into no set

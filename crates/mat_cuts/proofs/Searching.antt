@@ -1,23 +1,9 @@
 -- The whole search: the path and the listed sets together, from the start to the end.
-use Rattle.std.proofs.Common.{◌≡◌, ◌≢◌, ℕ, suc, ◌+◌, ◌*◌, ◌<◌, ◌≤◌, ◌⊎◌, true, false, not, ◌&&◌, eqb, ltb, List, [], ◌∷◌, ◌++◌, length, inl, inr, refl, sym, ap, ◌∙◌, subst, arith, ℤ, pos, ◌+ℤ◌, ◌≤ℤ◌, ◌<ℤ◌, length-append, All, Option, Some}
-use Rattle.std.proofs.lemmas.Bool.{and_from, and_parts, both_ways, cases_Bool, cases_eq, cases_lt, eq-eqb, eqb-true, false_from_ne_true, lt-ltb, ltb-true, ne_eqb}
-use Rattle.std.proofs.lemmas.Int.{ints}
-use Rattle.std.proofs.lemmas.List.Elements.{All-get_or}
-use Rattle.mat_cuts.specs.Limits.{never, vertex_bound}
-use Rattle.mat_sets.specs.Graphs.{ends_of, enters, IsGraph, IsRootFree, IsUnentered}
-use Rattle.mat_sets.specs.Search.{those_below}
-use Rattle.mat_sets.specs.Sets.{all_below, is_member, without_one, IsSet}
-use Rattle.mat_cuts.specs.Costs.{cost_at, IsWideCost}
-use Rattle.mat_sets.proofs.Cardinalities.{length-without_one}
-use Rattle.mat_sets.proofs.Ground.{is_member-all_below, length-all_below, IsRising-all_below, IsSet-all_below, IsSet-without_one}
-use Rattle.mat_sets.proofs.Members.{is_member-without_one, some_from_member}
-use Rattle.mat_sets.proofs.Search.{is_member-those_below, IsSet-those_below}
-use Rattle.mat_cuts.specs.Cuts.{weight_where}
-use Rattle.mat_cuts.specs.Listing.{IsBegun, IsFollowed, IsPaid, TellsSpent}
-use Rattle.mat_cuts.specs.declared.growing.Raised.{Raised}
+use Rattle.mat_cuts.proofs.Common.{◌≡◌, ◌≢◌, ℕ, suc, ◌+◌, ◌*◌, ◌<◌, ◌≤◌, ◌⊎◌, true, false, not, ◌&&◌, eqb, ltb, List, [], ◌∷◌, ◌++◌, length, inl, inr, refl, sym, ap, ◌∙◌, subst, arith, ℤ, pos, ◌+ℤ◌, ◌≤ℤ◌, ◌<ℤ◌, length-append, All, Option, Some, and_from, and_parts, both_ways, cases_Bool, cases_eq}
+use Rattle.mat_cuts.proofs.Common.{cases_lt, eq-eqb, eqb-true, false_from_ne_true, lt-ltb, ltb-true, ne_eqb, ints, All-get_or, never, vertex_bound, ends_of, enters, IsGraph, IsRootFree, IsUnentered, those_below, all_below, is_member, without_one, IsSet, cost_at, IsWideCost, length-without_one}
+use Rattle.mat_cuts.proofs.Common.{is_member-all_below, length-all_below, IsRising-all_below, IsSet-all_below, IsSet-without_one, is_member-without_one, some_from_member, is_member-those_below, IsSet-those_below, weight_where, IsBegun, IsFollowed, IsPaid, TellsSpent, Raised, at, comes, falls}
+use Rattle.mat_cuts.proofs.Common.{IsFirstTime, IsLeast, IsLowered, IsPath, IsRaised, Leads, CutWeight}
 use Rattle.mat_cuts.specs.declared.joining.Path.{Path}
-use Rattle.mat_cuts.specs.Raising.{at, comes, falls, IsFirstTime, IsLeast, IsLowered, IsPath, IsRaised, Leads}
-use Rattle.mat_cuts.specs.declared.cut_weight.CutWeight.{CutWeight}
 use Rattle.mat_cuts.proofs.Loops.{comes-parts}
 use Rattle.mat_cuts.proofs.Paths.{Leads-arc, Leads-itself, Leads-trans, IsPath-join, IsPath-later, IsPath-push}
 use Rattle.mat_cuts.proofs.Raises.{soon-later, IsLater-raise, IsRaised-raise}

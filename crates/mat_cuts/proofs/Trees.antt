@@ -1,24 +1,10 @@
 -- The second phase: a tree grows from the root, by the arc with the earliest time among those that leave the reached vertices. It enters each
 -- listed set once: an arc that enters a listed set of which a vertex is reached already has a later time than those arcs by which the
 -- set was joined, so one of these would have been taken. So the cost of the tree is always the weight of the listed sets that it has met.
-use Rattle.std.proofs.Common.{◌≡◌, ℕ, suc, ◌+◌, ◌<◌, ◌≤◌, Bool, true, false, not, ◌&&◌, ◌||◌, eqb, List, [], ◌∷◌, length, inl, inr, refl, sym, ap, ◌∙◌, subst, arith, ℤ, pos, ◌+ℤ◌}
-use Rattle.std.proofs.lemmas.Bool.{and_from, and_parts, both_ways, cases_Bool, cases_lt, eqb-true, eq-eqb, false_from_ne_true, false≢true, lt-ltb, ltb-true, or_cases, or_left, or_right}
-use Rattle.std.proofs.lemmas.Int.{ints}
+use Rattle.mat_cuts.proofs.Common.{◌≡◌, ℕ, suc, ◌+◌, ◌<◌, ◌≤◌, Bool, true, false, not, ◌&&◌, ◌||◌, eqb, List, [], ◌∷◌, length, inl, inr, refl, sym, ap, ◌∙◌, subst, arith, ℤ, pos, ◌+ℤ◌, and_from, and_parts, both_ways, cases_Bool, cases_lt, eqb-true, eq-eqb, false_from_ne_true, false≢true, lt-ltb}
+use Rattle.mat_cuts.proofs.Common.{ltb-true, or_cases, or_left, or_right, ints, never, ends_of, enters, IsGraph, IsSpanningArborescence, those_below, is_member, with_one, IsSet, cost_at, cost_of, length-with_one, sum_of-with_one, below_member, IsSet-nil, IsSet-with_one, is_member-head}
+use Rattle.mat_cuts.proofs.Common.{is_member-with_one, member_from_some, IsSubset-with_one, eqb-turned, all_weight, weight_on, weight_where, IsWeightedCut, is_timed, leaves, IsEarliest, at, AreNested, IsNested, IsRaised, Leads, CutWeight}
 use Rattle.std.specs.List.{AllByRecursion}
-use Rattle.mat_cuts.specs.Limits.{never}
-use Rattle.mat_sets.specs.Graphs.{ends_of, enters, IsGraph, IsSpanningArborescence}
-use Rattle.mat_sets.specs.Search.{those_below}
-use Rattle.mat_sets.specs.Sets.{is_member, with_one, IsSet}
-use Rattle.mat_cuts.specs.Costs.{cost_at, cost_of}
-use Rattle.mat_sets.proofs.Cardinalities.{length-with_one, sum_of-with_one}
-use Rattle.mat_sets.proofs.Ground.{below_member, IsSet-nil, IsSet-with_one}
-use Rattle.mat_sets.proofs.Members.{is_member-head, is_member-with_one, member_from_some}
-use Rattle.mat_sets.proofs.Subsets.{IsSubset-with_one}
-use Rattle.mat_sets.proofs.Truths.{eqb-turned}
-use Rattle.mat_cuts.specs.Cuts.{all_weight, weight_on, weight_where, IsWeightedCut}
-use Rattle.mat_cuts.specs.Growing.{is_timed, leaves, IsEarliest}
-use Rattle.mat_cuts.specs.Raising.{at, AreNested, IsNested, IsRaised, Leads}
-use Rattle.mat_cuts.specs.declared.cut_weight.CutWeight.{CutWeight}
 use Rattle.mat_cuts.proofs.Reached.{all_reached, one_unreached, reached_spans, root_alone, IsReached, IsReached-more, IsReached-start, IsReached-wider}
 use Rattle.mat_cuts.proofs.Loops.{stays, those-is, those-passes, those-set}
 

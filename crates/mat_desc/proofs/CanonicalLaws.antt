@@ -1,21 +1,9 @@
 -- The canonical text of a problem in range spells it: a set in rising order lists its own members. So two problems that are spelled are
 -- equal exactly where their canonical texts are. With names for its elements and its vertices its text spells it with these names.
-use Rattle.std.specs.Prelude.{codes}
-use Rattle.std.proofs.Common.{◌≡◌, ◌↔◌, ℕ, List, [], ◌∷◌, ◌++◌, length, map, refl, sym, ap, subst, arith}
+use Rattle.mat_desc.proofs.Common.{codes, ◌≡◌, ◌↔◌, ℕ, List, [], ◌∷◌, ◌++◌, length, map, refl, sym, ap, subst, arith, append_assoc, All-head, All-tail, IsSet, AreDistinct-rising, Line, Tree, Trees, partition, laminar, transversal, gammoid, dual, truncate, restrict, contract, union, no_trees}
+use Rattle.mat_desc.proofs.Common.{more_trees, Instance, pair, list, rooted, end_line, Naming, Notation, numbers, names, element_naming, IsNotationFor, NamedInstance, Lists, listing_line, CappedLines, FamilyLines, MatroidLines, MatroidsLines, TreeLines, InstanceLines, Spells, SpellsNamed}
+use Rattle.mat_desc.proofs.Common.{IsValidTree, IsValidMatroid, AreValidTrees, IsValid, capped_lines, matroid_lines, tree_lines, canonical_lines, canonical_text, named_text}
 use Rattle.std.specs.List.{All, flat_map}
-use Rattle.std.proofs.lemmas.List.{append_assoc}
-use Rattle.std.proofs.lemmas.List.Elements.{All-head, All-tail}
-use Rattle.mat_sets.specs.Sets.{IsSet}
-use Rattle.mat_sets.proofs.Ground.{AreDistinct-rising}
-use Rattle.mat_words.specs.Lines.{Line}
-use Rattle.mat_any.specs.Trees.{Tree, Trees, partition, laminar, transversal, gammoid, dual, truncate, restrict, contract, union, no_trees, more_trees}
-use Rattle.mat_problem.specs.Instances.{Instance, pair, list, rooted}
-use Rattle.mat_words.specs.Writing.{end_line}
-use Rattle.mat_desc.specs.Notations.{Naming, Notation, numbers, names, element_naming, IsNotationFor, NamedInstance}
-use Rattle.mat_desc.specs.Grammar.{Lists, listing_line, CappedLines, FamilyLines, MatroidLines, MatroidsLines, TreeLines}
-use Rattle.mat_desc.specs.Grammar.{InstanceLines, Spells, SpellsNamed}
-use Rattle.mat_problem.specs.Validity.{IsValidTree, IsValidMatroid, AreValidTrees, IsValid}
-use Rattle.mat_desc.specs.Canonical.{capped_lines, matroid_lines, tree_lines, canonical_lines, canonical_text, named_text}
 use Rattle.mat_desc.proofs.ProblemLaws.{one_problem}
 
 -- a set lists its own members

@@ -1,24 +1,8 @@
 -- A line with a cap and the elements of a set behind its keyword: what is read is spelled so, and what is spelled so is read. Class lines and
 -- set lines are read so.
-use Rattle.std.proofs.Common.{◌≡◌, ℕ, ◌≤◌, true, false, ◌||◌, List, [], ◌∷◌}
-use Rattle.std.proofs.Common.{pos, Result, Ok, refl, sym, subst, ◌∙◌, arith}
+use Rattle.mat_desc.proofs.Common.{◌≡◌, ℕ, ◌≤◌, true, false, ◌||◌, List, [], ◌∷◌, pos, Result, Ok, refl, sym, subst, ◌∙◌, arith, and_from, is_member, IsSet, is_word, numeral, Line, numeral_word, most_elements, WordsLeft, LinesLeft, ◌>>=◌, Fault, Naming, words_for, IsNaming, keyed_at, size_at}
+use Rattle.mat_desc.proofs.Common.{elements_at, Lists, found-same, bind_found, size_again, AreLeft, keyed_again}
 use Rattle.std.specs.List.{list_all}
-use Rattle.std.proofs.lemmas.Bool.{and_from}
-use Rattle.mat_sets.specs.Sets.{is_member, IsSet}
-use Rattle.mat_words.specs.Words.{is_word}
-use Rattle.mat_words.specs.Numbers.{numeral}
-use Rattle.mat_words.specs.Lines.{Line}
-use Rattle.mat_words.proofs.NumberLemmas.{numeral_word}
-use Rattle.mat_sets.specs.Limits.{most_elements}
-use Rattle.mat_words.specs.Cursors.{WordsLeft, LinesLeft}
-use Rattle.mat_words.specs.Steps.{◌>>=◌}
-use Rattle.mat_desc.specs.Faults.{Fault}
-use Rattle.mat_desc.specs.Notations.{Naming, words_for, IsNaming}
-use Rattle.mat_desc.specs.Reading.{keyed_at, size_at, elements_at}
-use Rattle.mat_desc.specs.Grammar.{Lists}
-use Rattle.mat_words.proofs.ReadingSteps.{found-same, bind_found}
-use Rattle.mat_words.proofs.WordReading.{size_again}
-use Rattle.mat_words.proofs.LineReading.{AreLeft, keyed_again}
 use Rattle.mat_desc.proofs.Told.{cut_then, size_found, keyed_found}
 use Rattle.mat_desc.proofs.NotationLaws.{words_for-words}
 use Rattle.mat_desc.proofs.ElementLaws.{with_each, elements_found, Lists-read, IsSet-read, listed_below, set_again, members_made, members_left}

@@ -1,22 +1,9 @@
 -- Class lines: what is read is spelled so, and what is spelled so is read.
-use Rattle.std.proofs.Common.{◌≡◌, ℕ, zero, suc, ◌+◌, ◌≤◌, Bool, true, false, ◌||◌}
-use Rattle.std.proofs.Common.{List, [], ◌∷◌, length, Ok, refl, ap, subst, ◌∙◌, arith}
-use Rattle.std.specs.Prelude.{codes}
+use Rattle.mat_desc.proofs.Common.{◌≡◌, ℕ, zero, suc, ◌+◌, ◌≤◌, Bool, true, false, ◌||◌, List, [], ◌∷◌, length, Ok, refl, ap, subst, ◌∙◌, arith, codes, All-nil, All-cons, All-head, All-tail, All-weaker, is_member, AllBelow, IsSet, Line, most_sets, most_elements, LinesLeft, Naming, IsNaming}
+use Rattle.mat_desc.proofs.Common.{class_at, classes_at, Lists, CappedLines, AreClasses, found-same, bind_found, AreLeft}
 use Rattle.std.specs.List.{All}
-use Rattle.std.proofs.lemmas.List.Elements.{All-nil, All-cons, All-head, All-tail, All-weaker}
-use Rattle.mat_sets.specs.Sets.{is_member, AllBelow, IsSet}
 use Rattle.mat_sets.specs.Families.{indicator, multiplicity, AreDisjoint}
 use Rattle.mat_count.specs.Partitions.{IsPartition}
-use Rattle.mat_words.specs.Lines.{Line}
-use Rattle.mat_problem.specs.Limits.{most_sets}
-use Rattle.mat_sets.specs.Limits.{most_elements}
-use Rattle.mat_words.specs.Cursors.{LinesLeft}
-use Rattle.mat_desc.specs.Notations.{Naming, IsNaming}
-use Rattle.mat_desc.specs.Reading.{class_at, classes_at}
-use Rattle.mat_desc.specs.Grammar.{Lists, CappedLines}
-use Rattle.mat_problem.specs.Validity.{AreClasses}
-use Rattle.mat_words.proofs.ReadingSteps.{found-same, bind_found}
-use Rattle.mat_words.proofs.LineReading.{AreLeft}
 use Rattle.mat_desc.proofs.CappedLineLaws.{listed_line, IsCappedRead, capped_read, capped_again}
 use Rattle.mat_desc.proofs.ElementLaws.{with_each, is_member-with_each}
 

@@ -1,14 +1,6 @@
 -- Class lines that are read one after the other, as a loop reads them.
-use Rattle.std.proofs.Common.{◌≡◌, ℕ, suc, ◌-◌, ◌+◌, ◌≤◌, ◌<◌, List, [], ◌∷◌}
-use Rattle.std.proofs.Common.{◌++◌, Result, Ok, Err, refl, sym, ap₂, ◌∙◌, append_assoc, arith}
-use Rattle.std.proofs.lemmas.List.{append-nil}
+use Rattle.mat_desc.proofs.Common.{◌≡◌, ℕ, suc, ◌-◌, ◌+◌, ◌≤◌, ◌<◌, List, [], ◌∷◌, ◌++◌, Result, Ok, Err, refl, sym, ap₂, ◌∙◌, append_assoc, arith, append-nil, LinesLeft, ◌>>=◌, Fails, DescRefusal, Fault, Naming, class_at, classes_at}
 use Rattle.mat_words.specs.declared.refusal.Refusal.TheVariants as refusals
-use Rattle.mat_words.specs.Cursors.{LinesLeft}
-use Rattle.mat_words.specs.Steps.{◌>>=◌}
-use Rattle.mat_words.specs.Reading.{Fails}
-use Rattle.mat_desc.specs.Faults.{DescRefusal, Fault}
-use Rattle.mat_desc.specs.Notations.{Naming}
-use Rattle.mat_desc.specs.Reading.{class_at, classes_at}
 
 -- sets and their caps, and the lines behind them
 abbrev pub SetsRead : Type 0

@@ -1,8 +1,6 @@
 -- Lists that are read side by side, one item of each on a line.
-use Rattle.std.proofs.Common.{◌≡◌, ℕ, suc, List, [], ◌∷◌, ◌++◌, length, map, refl, ap, sym, ◌∙◌, arith}
+use Rattle.mat_desc.proofs.Common.{◌≡◌, ℕ, suc, List, [], ◌∷◌, ◌++◌, length, map, refl, ap, sym, ◌∙◌, arith, firsts-zip, seconds-zip, Weight}
 use Rattle.std.specs.List.{zip}
-use Rattle.std.proofs.lemmas.Slice.Zip.{firsts-zip, seconds-zip}
-use Rattle.mat_sets.specs.declared.weight.Weight.{Weight}
 
 -- one more item of each list
 pub zip-push : {A B : Type 0} (xs : List A) (ys : List B) (x : A) (y : B) → length ys ≡ length xs

@@ -1,17 +1,8 @@
 -- Different numbers that are read one after the other, as a loop reads them.
-use Rattle.std.proofs.Common.{◌≡◌, ℕ, suc, ◌-◌, ◌+◌, ◌≤◌, ◌<◌, true, false, List, []}
-use Rattle.std.proofs.Common.{◌∷◌, ◌++◌, Ok, Err, Result, refl, sym, ap, ◌∙◌, arith}
-use Rattle.std.proofs.lemmas.List.{append-nil}
-use Rattle.mat_sets.specs.Sets.{is_member, with_one}
-use Rattle.mat_desc.specs.declared.refusal.DescKind.TheVariants.{Repeated}
-use Rattle.mat_words.specs.Cursors.{WordsLeft}
+use Rattle.mat_desc.proofs.Common.{◌≡◌, ℕ, suc, ◌-◌, ◌+◌, ◌≤◌, ◌<◌, true, false, List, [], ◌∷◌, ◌++◌, Ok, Err, Result, refl, sym, ap, ◌∙◌, arith, append-nil, is_member, with_one, Repeated, WordsLeft, Fails, Fault, kind_of, refusal_of, distinct_at, with_front, with_front-cons}
 use Rattle.mat_words.specs.Reading as reading
 use Rattle.mat_words.specs.declared.refusal.{ReadingFault.{ReadingFault}, Refusal.{Refusal}}
 use Rattle.mat_words.specs.declared.refusal.Refusal.TheVariants as readings
-use Rattle.mat_words.specs.Reading.{Fails}
-use Rattle.mat_desc.specs.Faults.{Fault, kind_of, refusal_of}
-use Rattle.mat_desc.specs.Reading.{distinct_at}
-use Rattle.mat_words.proofs.Repeats.{with_front, with_front-cons}
 
 module _ (bound many i : ℕ) (taken front : List ℕ) (s : WordsLeft) (total : Result (List ℕ × WordsLeft) Fault)
     (so_far : with_front front (distinct_at bound (many - i) taken s) ≡ total) where

@@ -1,17 +1,8 @@
 -- Lists of elements: what is read is spelled so, and what is spelled so is read.
-use Rattle.std.proofs.Common.{◌≡◌, ℕ, Bool, true, false, ◌||◌, eqb, List, [], ◌∷◌}
-use Rattle.std.proofs.Common.{Ok, refl, sym, ap, subst, ◌∙◌, inl, inr}
-use Rattle.std.proofs.lemmas.Bool.{cases_Bool, eq-eqb, eqb-true, or_parts}
-use Rattle.mat_sets.specs.Sets.{is_member, IsRising, AllBelow, IsSet, AreDistinct, with_one}
+use Rattle.mat_desc.proofs.Common.{◌≡◌, ℕ, Bool, true, false, ◌||◌, eqb, List, [], ◌∷◌, Ok, refl, sym, ap, subst, ◌∙◌, inl, inr, cases_Bool, eq-eqb, eqb-true, or_parts, is_member, IsRising, AllBelow, IsSet, AreDistinct, with_one, AllBelow-member, AllBelow-from_members, IsSet-from, Repeated, Naming}
+use Rattle.mat_desc.proofs.Common.{word_for, words_for, IsNaming, WordsLeft, member_at, elements_at, elements_from, Lists, found-same, bind_found, refused_found}
 use Rattle.mat_sets.proofs.Members.{is_member-with_one, IsRising-with_one, IsRising-nil, same_members}
-use Rattle.mat_sets.proofs.Ground.{AllBelow-member, AllBelow-from_members, IsSet-from}
 use Rattle.mat_sets.proofs.Truths.{or_none}
-use Rattle.mat_desc.specs.declared.refusal.DescKind.TheVariants.{Repeated}
-use Rattle.mat_desc.specs.Notations.{Naming, word_for, words_for, IsNaming}
-use Rattle.mat_words.specs.Cursors.{WordsLeft}
-use Rattle.mat_desc.specs.Reading.{member_at, elements_at, elements_from}
-use Rattle.mat_desc.specs.Grammar.{Lists}
-use Rattle.mat_words.proofs.ReadingSteps.{found-same, bind_found, refused_found}
 use Rattle.mat_desc.proofs.NotationLaws.{member_found, member_again}
 
 -- the set with each of the items added

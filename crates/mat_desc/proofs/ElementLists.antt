@@ -1,17 +1,6 @@
 -- The elements of a line, as a loop reads them.
-use Rattle.std.proofs.Common.{◌≡◌, ℕ, ◌<◌, true, false, List, [], ◌∷◌, length, Some}
-use Rattle.std.proofs.Common.{None, Result, Ok, Err, pos, sym, subst, arith}
-use Rattle.mat_sets.specs.Sets.{is_member, with_one}
-use Rattle.mat_words.specs.Numbers.{numeral}
-use Rattle.mat_words.specs.Names.{name_index}
-use Rattle.mat_words.specs.Cursors.{WordsLeft}
-use Rattle.mat_words.proofs.ReadingSteps.{bind_found}
-use Rattle.mat_desc.specs.declared.refusal.DescKind.TheVariants.{Repeated}
+use Rattle.mat_desc.proofs.Common.{◌≡◌, ℕ, ◌<◌, true, false, List, [], ◌∷◌, length, Some, None, Result, Ok, Err, pos, sym, subst, arith, is_member, with_one, numeral, name_index, WordsLeft, bind_found, Repeated, Fails, DescRefusal, Fault, Naming, word_at, member_at, elements_from}
 use Rattle.mat_words.specs.declared.refusal.Refusal.TheVariants as refusals
-use Rattle.mat_words.specs.Reading.{Fails}
-use Rattle.mat_desc.specs.Faults.{DescRefusal, Fault}
-use Rattle.mat_desc.specs.Notations.{Naming}
-use Rattle.mat_desc.specs.Reading.{word_at, member_at, elements_from}
 use Rattle.mat_desc.proofs.Told.{word_found, word_line, below_found}
 use Rattle.mat_desc.proofs.NotationLaws.{named_found}
 

@@ -1,49 +1,18 @@
 -- The lines of a problem, form by form: what is read is spelled so, and what is spelled so is read.
-use Rattle.std.proofs.Common.{◌<◌, ◌≡◌, ℕ, ◌≤◌, ◌^◌, Bool, true, false, cond, List, [], ◌∷◌, ◌++◌, length}
-use Rattle.std.proofs.Common.{map, pos, Option, Some, None, Ok, refl, sym, ap, subst, ◌∙◌, arith}
-use Rattle.std.specs.Prelude.{codes, bytes_eq, neg_ℤ}
+use Rattle.mat_desc.proofs.Common.{◌<◌, ◌≡◌, ℕ, ◌≤◌, ◌^◌, Bool, true, false, cond, List, [], ◌∷◌, ◌++◌, length, map, pos, Option, Some, None, Ok, refl, sym, ap, subst, ◌∙◌, arith, codes, bytes_eq, neg_ℤ, and_from, append-nil, bytes_eq-Decides, is_word, numeral, weight_word, Line, Weight, most_sets}
+use Rattle.mat_desc.proofs.Common.{largest_weight, most_vertices, most_elements, most_matroids, Form, repeat_at, WordsLeft, LinesLeft, Version, Naming, IsNaming, word_for, Notation, numbers, names, element_naming, vertex_naming, IsNotationFor, WrittenInstance, size_at, below_at, member_at}
+use Rattle.mat_desc.proofs.Common.{next_weights_at, ended_at, keyed_at, weights_at, notation_at, header_root_at, root_at, ends_line_at, weighted_at, coloured_edge_at, matroid_at, two_matroids_at, pair_at, list_at, Tree, graph_at, rooted_at, coloured_at, table_at, form_of, form_at, Instance, pair}
+use Rattle.mat_desc.proofs.Common.{list, graph, rooted, coloured, table, end_line, version_line, name_lines, root_words, root_lines, ends_line, weighted_line, coloured_edge_line, IsPairBelow, IsWeight, AreWeights, IsValid, InstanceLines, found-same, bind_found, numeral_word, numerals_words}
+use Rattle.mat_desc.proofs.Common.{size_again, below_again, weights_again, weights_words, AreLeft, keyed_again, All-weaker, firsts-zip, seconds-zip, items_found, items_again}
 use Rattle.std.specs.List.{list_all}
-use Rattle.std.proofs.lemmas.Bool.{and_from}
-use Rattle.std.proofs.lemmas.List.{append-nil}
-use Rattle.std.proofs.lemmas.Slice.Eq.{bytes_eq-Decides}
-use Rattle.mat_words.specs.Words.{is_word}
-use Rattle.mat_words.specs.Numbers.{numeral}
-use Rattle.mat_words.specs.Weights.{weight_word}
-use Rattle.mat_words.specs.Lines.{Line}
-use Rattle.mat_sets.specs.declared.weight.Weight.{Weight}
-use Rattle.mat_problem.specs.Limits.{most_sets}
-use Rattle.mat_sets.specs.Limits.{largest_weight, most_vertices, most_elements, most_matroids}
-use Rattle.mat_desc.specs.declared.read.keywords.Form.{Form}
 use Rattle.mat_desc.specs.declared.read.keywords.Form.TheVariants as forms
-use Rattle.mat_words.specs.Steps.{repeat_at}
-use Rattle.mat_words.specs.Cursors.{WordsLeft, LinesLeft}
-use Rattle.mat_desc.specs.declared.read.keywords.Version.{Version}
 use Rattle.mat_desc.specs.declared.read.keywords.Version.TheVariants as versions
-use Rattle.mat_desc.specs.Notations.{Naming, IsNaming, word_for, Notation, numbers, names, element_naming, vertex_naming, IsNotationFor}
-use Rattle.mat_desc.specs.Reading.{WrittenInstance, size_at, below_at, member_at, next_weights_at, ended_at, keyed_at, weights_at, notation_at}
-use Rattle.mat_desc.specs.Reading.{header_root_at, root_at}
-use Rattle.mat_desc.specs.Reading.{ends_line_at, weighted_at, coloured_edge_at, matroid_at, two_matroids_at, pair_at, list_at}
-use Rattle.mat_any.specs.Trees.{Tree}
-use Rattle.mat_desc.specs.Reading.{graph_at, rooted_at, coloured_at, table_at, form_of, form_at}
-use Rattle.mat_problem.specs.Instances.{Instance, pair, list, graph, rooted, coloured, table}
-use Rattle.mat_words.specs.Writing.{end_line}
-use Rattle.mat_desc.specs.Grammar.{version_line, name_lines, root_words, root_lines, ends_line, weighted_line, coloured_edge_line}
-use Rattle.mat_problem.specs.Validity.{IsPairBelow}
-use Rattle.mat_problem.specs.Validity.{IsWeight, AreWeights, IsValid}
-use Rattle.mat_desc.specs.Grammar.{InstanceLines}
-use Rattle.mat_words.proofs.ReadingSteps.{found-same, bind_found}
-use Rattle.mat_words.proofs.NumberLemmas.{numeral_word}
-use Rattle.mat_words.proofs.WordReading.{numerals_words, size_again, below_again, weights_again, weights_words}
-use Rattle.mat_words.proofs.LineReading.{AreLeft, keyed_again}
 use Rattle.mat_desc.proofs.Told.{cut_then, count_line, ended_found, ended_again, size_found, below_found, weights_found, keyed_found}
 use Rattle.mat_desc.proofs.NotationLaws.{version_for, member_found, member_again, word_for-word, notation_found, notation_again}
 use Rattle.mat_desc.proofs.MatroidLaws.{matroid_found, matroid_again}
 use Rattle.mat_desc.proofs.MatroidRows.{matroids_found, matroids_again}
 use Rattle.std.specs.List.{All, zip}
-use Rattle.std.proofs.lemmas.List.Elements.{All-weaker}
-use Rattle.std.proofs.lemmas.Slice.Zip.{firsts-zip, seconds-zip}
 use Rattle.mat_desc.proofs.Columns.{length-zip_same, edges-zip, colours-zip, weights-zip}
-use Rattle.mat_words.proofs.ItemLines.{items_found, items_again}
 use Rattle.mat_desc.proofs.ItemLaws.{ends_line_found, ends_line_again, IsWeighted, weighted_found, weighted_again}
 use Rattle.mat_desc.proofs.ItemLaws.{IsColoured, coloured_edge_found, coloured_edge_again, All-map, All-zip, zip-parts, length-map_same}
 

@@ -1,30 +1,10 @@
 -- Whole descriptions: a text that is read spells the problem that was read, and a text that spells a problem is read as that problem.
-use Rattle.std.proofs.Common.{◌≡◌, ℕ, Bool, true, false, cond, Result, List, [], ◌∷◌, Option}
-use Rattle.std.proofs.Common.{Some, None, Ok, refl, sym, ap, subst, ◌∙◌, arith}
-use Rattle.std.specs.Prelude.{codes, bytes_eq}
+use Rattle.mat_desc.proofs.Common.{◌≡◌, ℕ, Bool, true, false, cond, Result, List, [], ◌∷◌, Option, Some, None, Ok, refl, sym, ap, subst, ◌∙◌, arith, codes, bytes_eq, and_from, bytes_eq-Decides, Line, lines_of, text_of, is_word, TooManyLines, Form, Version, WordsLeft, LinesLeft, is_closed, ◌>>=◌}
+use Rattle.mat_desc.proofs.Common.{Fault, WrittenInstance, line_at, word_at, ended_at, keyed_at, version_of, version_named, version_at, end_at, closed_at, ending_at, form_of, form_at, instance_at, description_at, written_of, read_of, named_of, Instance, Notation, numbers, names, IsNotationFor}
+use Rattle.mat_desc.proofs.Common.{NamedInstance, named_by, end_line, version_line, InstanceLines, Spells, SpellsNamed, IsValid, found, found-same, bind_found, test_found, same_text, AreLeft, line_again, keyed_again, known_line, closed_left}
 use Rattle.std.specs.List.{list_all}
-use Rattle.std.proofs.lemmas.Bool.{and_from}
-use Rattle.std.proofs.lemmas.Slice.Eq.{bytes_eq-Decides}
-use Rattle.mat_words.specs.Lines.{Line, lines_of, text_of}
-use Rattle.mat_words.specs.Words.{is_word}
-use Rattle.mat_desc.specs.declared.refusal.DescKind.TheVariants.{TooManyLines}
-use Rattle.mat_desc.specs.declared.read.keywords.Form.{Form}
-use Rattle.mat_desc.specs.declared.read.keywords.Version.{Version}
 use Rattle.mat_desc.specs.declared.read.keywords.Version.TheVariants as versions
-use Rattle.mat_words.specs.Cursors.{WordsLeft, LinesLeft}
-use Rattle.mat_words.specs.Reading.{word_at as word_read, is_closed}
-use Rattle.mat_words.specs.Steps.{◌>>=◌}
-use Rattle.mat_desc.specs.Faults.{Fault}
-use Rattle.mat_desc.specs.Reading.{WrittenInstance, line_at, word_at, ended_at, keyed_at, version_of, version_named, version_at, end_at}
-use Rattle.mat_desc.specs.Reading.{closed_at, ending_at, form_of, form_at, instance_at, description_at, written_of, read_of, named_of}
-use Rattle.mat_problem.specs.Instances.{Instance}
-use Rattle.mat_desc.specs.Notations.{Notation, numbers, names, IsNotationFor, NamedInstance, named_by}
-use Rattle.mat_words.specs.Writing.{end_line}
-use Rattle.mat_desc.specs.Grammar.{version_line, InstanceLines, Spells, SpellsNamed}
-use Rattle.mat_problem.specs.Validity.{IsValid}
-use Rattle.mat_words.proofs.ReadingSteps.{found, found-same, bind_found, test_found}
-use Rattle.mat_words.proofs.LineLemmas.{same_text}
-use Rattle.mat_words.proofs.LineReading.{AreLeft, line_again, keyed_again, known_line, closed_left}
+use Rattle.mat_words.specs.Reading.{word_at as word_read}
 use Rattle.mat_desc.proofs.Told.{word_found, ended_found, ended_again, line_found, keyed_found}
 use Rattle.mat_desc.proofs.NotationLaws.{version_for}
 use Rattle.mat_desc.proofs.FormLaws.{form_spelling, form_found, form_of-form_spelling, form_word, written_as, any_form_found, any_form_spelled}

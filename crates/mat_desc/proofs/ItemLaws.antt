@@ -1,35 +1,13 @@
 -- A line for each item: what is read is spelled so, and what is spelled so is read.
-use Rattle.std.proofs.Common.{◌≡◌, ℕ, suc, ◌<◌, ◌≤◌, ◌^◌, pos, true, List, []}
-use Rattle.std.proofs.Common.{◌∷◌, length, map, Ok, None, refl, ap, subst, ◌∙◌, arith}
-use Rattle.std.specs.Prelude.{codes, neg_ℤ}
+use Rattle.mat_desc.proofs.Common.{◌≡◌, ℕ, suc, ◌<◌, ◌≤◌, ◌^◌, pos, true, List, [], ◌∷◌, length, map, Ok, None, refl, ap, subst, ◌∙◌, arith, codes, neg_ℤ, and_from, All-nil, All-cons, All-head, All-tail, is_word, numeral, weight_word, numeral_word, Line, repeat_at, WordsLeft, LinesLeft, Weight}
+use Rattle.mat_desc.proofs.Common.{most_digits, largest_weight, Naming, word_for, IsNaming, keyed_at, below_at, weight_at, ended_at, ends_at, member_at, ends_line_at, column_at, binary_at, weighted_at, coloured_edge_at, IsWeight, IsPairBelow, ends_line, column_line, weighted_line}
+use Rattle.mat_desc.proofs.Common.{coloured_edge_line, found-same, bind_found, below_again, weight_at_again, AreLeft, keyed_again, IsItemRead, items_found, IsGraph-pairs, IsColumn, IsBinaryMatrix-columns}
 use Rattle.std.specs.List.{All, list_all, zip}
-use Rattle.std.proofs.lemmas.Bool.{and_from}
-use Rattle.std.proofs.lemmas.List.Elements.{All-nil, All-cons, All-head, All-tail}
-use Rattle.mat_words.specs.Words.{is_word}
-use Rattle.mat_words.specs.Numbers.{numeral}
-use Rattle.mat_words.specs.Weights.{weight_word}
-use Rattle.mat_words.proofs.NumberLemmas.{numeral_word}
 use Rattle.mat_words.proofs.WeightLemmas.{weight_word-word}
-use Rattle.mat_words.specs.Lines.{Line}
-use Rattle.mat_words.specs.Steps.{repeat_at}
-use Rattle.mat_words.specs.Cursors.{WordsLeft, LinesLeft}
-use Rattle.mat_sets.specs.declared.weight.Weight.{Weight}
-use Rattle.mat_problem.specs.Limits.{most_digits}
-use Rattle.mat_sets.specs.Limits.{largest_weight}
-use Rattle.mat_desc.specs.Notations.{Naming, word_for, IsNaming}
-use Rattle.mat_desc.specs.Reading.{keyed_at, below_at, weight_at, ended_at, ends_at, member_at}
-use Rattle.mat_desc.specs.Reading.{ends_line_at, column_at, binary_at, weighted_at, coloured_edge_at}
 use Rattle.mat_words.specs.Binary.{binary}
-use Rattle.mat_problem.specs.Validity.{IsWeight, IsPairBelow}
-use Rattle.mat_desc.specs.Grammar.{ends_line, column_line, weighted_line, coloured_edge_line}
-use Rattle.mat_words.proofs.ReadingSteps.{found-same, bind_found}
-use Rattle.mat_words.proofs.WordReading.{below_again, weight_at_again}
 use Rattle.mat_words.proofs.BinaryLaws.{binary_word, binary_again}
-use Rattle.mat_words.proofs.LineReading.{AreLeft, keyed_again}
-use Rattle.mat_words.proofs.ItemLines.{IsItemRead, items_found}
 use Rattle.mat_desc.proofs.Told.{cut_then, below_found, binary_found, weight_found, ended_found, ended_again, keyed_found}
 use Rattle.mat_desc.proofs.NotationLaws.{member_found, member_again, word_for-word}
-use Rattle.mat_problem.proofs.SoundProblems.{IsGraph-pairs, IsColumn, IsBinaryMatrix-columns}
 use Rattle.mat_sets.specs.Graphs.{IsGraph}
 use Rattle.mat_gf2.specs.Columns.{IsBinaryMatrix}
 

@@ -1,31 +1,13 @@
 -- The kinds of a matroid: the word that each keyword is, and, of the kinds that are made of no other matroid, that what is read behind the
 -- keyword is spelled so.
-use Rattle.std.proofs.Common.{◌≡◌, ℕ, suc, ◌≤◌, Bool, true, false, cond, List, [], ◌∷◌, ◌++◌}
-use Rattle.std.proofs.Common.{length, map, pos, Option, Some, None, Ok, refl, ap, subst, ◌∙◌, arith}
-use Rattle.std.specs.Prelude.{codes, bytes_eq}
-use Rattle.std.proofs.lemmas.Slice.Eq.{bytes_eq-Decides}
-use Rattle.mat_words.specs.Numbers.{numeral}
-use Rattle.mat_words.specs.Lines.{Line}
-use Rattle.mat_any.specs.Trees.{Tree, uniform, partition, laminar, graphic, gf2, depth}
-use Rattle.mat_desc.specs.Notations.{Naming, IsNaming}
-use Rattle.mat_problem.specs.Limits.{most_sets, most_digits}
-use Rattle.mat_sets.specs.Limits.{most_vertices, most_elements}
-use Rattle.mat_desc.specs.declared.read.keywords.Keyword.{Keyword}
+use Rattle.mat_desc.proofs.Common.{◌≡◌, ℕ, suc, ◌≤◌, Bool, true, false, cond, List, [], ◌∷◌, ◌++◌, length, map, pos, Option, Some, None, Ok, refl, ap, subst, ◌∙◌, arith, codes, bytes_eq, bytes_eq-Decides, numeral, Line, Tree, uniform, partition, laminar, graphic, gf2, depth, Naming, IsNaming}
+use Rattle.mat_desc.proofs.Common.{most_sets, most_digits, most_vertices, most_elements, Keyword, WordsLeft, LinesLeft, repeat_at, size_at, ended_at, classes_at, nested_sets_at, uniform_at, partition_at, laminar_at, ends_line_at, graphic_at, column_at, gf2_at, keyword_of, IsPairBelow, IsValidTree}
+use Rattle.mat_desc.proofs.Common.{MatroidLines, ends_line, column_line, found-same, bind_found, AreLeft, items_found, IsColumn}
 use Rattle.mat_desc.specs.declared.read.keywords.Keyword.TheVariants as keywords
-use Rattle.mat_words.specs.Cursors.{WordsLeft, LinesLeft}
-use Rattle.mat_words.specs.Steps.{repeat_at}
-use Rattle.mat_desc.specs.Reading.{size_at, ended_at, classes_at, nested_sets_at, uniform_at, partition_at}
-use Rattle.mat_desc.specs.Reading.{laminar_at, ends_line_at, graphic_at, column_at, gf2_at, keyword_of}
-use Rattle.mat_problem.specs.Validity.{IsPairBelow, IsValidTree}
-use Rattle.mat_desc.specs.Grammar.{MatroidLines, ends_line, column_line}
-use Rattle.mat_words.proofs.ReadingSteps.{found-same, bind_found}
-use Rattle.mat_words.proofs.LineReading.{AreLeft}
 use Rattle.mat_desc.proofs.Told.{cut_then, count_line, ended_found, size_found}
 use Rattle.mat_desc.proofs.ClassLaws.{classes_read, classes_valid}
 use Rattle.mat_desc.proofs.NestedSetLaws.{nested_sets_read, nested_sets_valid}
-use Rattle.mat_words.proofs.ItemLines.{items_found}
 use Rattle.mat_desc.proofs.ItemLaws.{ends_line_found, column_found}
-use Rattle.mat_problem.proofs.SoundProblems.{IsColumn}
 
 -- ---- keywords
 

@@ -1,24 +1,8 @@
 -- Transversal matroids and gammoids: what is read behind the keyword is spelled so, and what is spelled so is read.
-use Rattle.std.proofs.Common.{◌≡◌, ℕ, ◌≤◌, List, [], ◌∷◌, ◌++◌, length, map}
-use Rattle.std.proofs.Common.{pos, None, Ok, refl, ap, subst, ◌∙◌, arith}
-use Rattle.std.specs.Prelude.{codes}
-use Rattle.mat_words.specs.Numbers.{numeral, numerals}
-use Rattle.mat_words.specs.Lines.{Line}
-use Rattle.mat_any.specs.Trees.{Tree, transversal, gammoid}
-use Rattle.mat_desc.specs.Notations.{Naming, IsNaming}
-use Rattle.mat_problem.specs.Limits.{most_sets, most_arcs}
-use Rattle.mat_sets.specs.Limits.{most_vertices}
+use Rattle.mat_desc.proofs.Common.{◌≡◌, ℕ, ◌≤◌, List, [], ◌∷◌, ◌++◌, length, map, pos, None, Ok, refl, ap, subst, ◌∙◌, arith, codes, numeral, numerals, Line, Tree, transversal, gammoid, Naming, IsNaming, most_sets, most_arcs, most_vertices, WordsLeft, LinesLeft, repeat_at, size_at, ended_at}
+use Rattle.mat_desc.proofs.Common.{set_line_at, transversal_at, targets_at, ends_line_at, gammoid_at, IsPairBelow, IsValidTree, Lists, FamilyLines, ends_line, found-same, bind_found, size_again, AreLeft, items_found, items_again}
 use Rattle.mat_desc.specs.declared.read.keywords.Keyword.TheVariants as keywords
-use Rattle.mat_words.specs.Cursors.{WordsLeft, LinesLeft}
-use Rattle.mat_words.specs.Steps.{repeat_at}
-use Rattle.mat_desc.specs.Reading.{size_at, ended_at, set_line_at, transversal_at, targets_at, ends_line_at, gammoid_at}
-use Rattle.mat_problem.specs.Validity.{IsPairBelow, IsValidTree}
-use Rattle.mat_desc.specs.Grammar.{Lists, FamilyLines, ends_line}
-use Rattle.mat_words.proofs.ReadingSteps.{found-same, bind_found}
-use Rattle.mat_words.proofs.WordReading.{size_again}
-use Rattle.mat_words.proofs.LineReading.{AreLeft}
 use Rattle.mat_desc.proofs.Told.{count_line, ended_found, ended_again, size_found}
-use Rattle.mat_words.proofs.ItemLines.{items_found, items_again}
 use Rattle.mat_desc.proofs.ItemLaws.{ends_line_found, ends_line_again}
 use Rattle.mat_desc.proofs.SetLineLaws.{set_line_found, set_line_again, family_found, family_again}
 use Rattle.mat_desc.proofs.TargetLaws.{targets_found, targets_again}

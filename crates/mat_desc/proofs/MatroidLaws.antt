@@ -1,41 +1,19 @@
 -- The lines of a matroid: what is read is spelled so, and what is spelled so is read. The laws of the lines of one matroid are over any reader
 -- that is right for the matroids within it, in which fewer stand within one another. So each is right, by induction on that number.
-use Rattle.std.proofs.Common.{◌≡◌, ℕ, zero, suc, ◌≤◌, true, List, [], ◌∷◌, ◌++◌, length, map}
-use Rattle.std.proofs.Common.{pos, Option, Some, None, Result, Ok, refl, sym, ap, subst, ◌∙◌, arith}
-use Rattle.std.specs.Prelude.{codes}
+use Rattle.mat_desc.proofs.Common.{◌≡◌, ℕ, zero, suc, ◌≤◌, true, List, [], ◌∷◌, ◌++◌, length, map, pos, Option, Some, None, Result, Ok, refl, sym, ap, subst, ◌∙◌, arith, codes, and_from, is_word, numeral, numerals, numeral_word, Tree, Trees, uniform, partition, laminar, graphic, transversal}
+use Rattle.mat_desc.proofs.Common.{gammoid, gf2, dual, truncate, restrict, contract, union, no_trees, more_trees, tree_count, trees_from, depth, greatest_depth, Line, Naming, words_for, IsNaming, most_sets, most_digits, deepest, most_vertices, most_elements, most_matroids, Keyword, WordsLeft}
+use Rattle.mat_desc.proofs.Common.{LinesLeft, ◌>>=◌, repeat_at, Fault, line_at, word_at, size_at, ended_at, elements_at, uniform_at, partition_at, laminar_at, ends_line_at, graphic_at, column_at, gf2_at, TreeReader, dual_at, truncate_at, restrict_at, contract_at, union_at, keyword_of, kind_at}
+use Rattle.mat_desc.proofs.Common.{matroid_within, matroid_at, IsPairBelow, IsValidTree, IsValidMatroid, AreClasses, AreNestedSets, AreValidTrees, MatroidLines, TreeLines, ends_line, column_line, found-same, bind_found, size_again, numerals_words, AreLeft, line_again, items_again, IsColumn}
 use Rattle.std.specs.List.{list_all}
-use Rattle.std.proofs.lemmas.Bool.{and_from}
 use Rattle.mat_sets.specs.Families.{multiplicity}
-use Rattle.mat_words.specs.Words.{is_word}
-use Rattle.mat_words.specs.Numbers.{numeral, numerals}
-use Rattle.mat_words.proofs.NumberLemmas.{numeral_word}
-use Rattle.mat_any.specs.Trees.{Tree, Trees, uniform, partition, laminar, graphic, transversal, gammoid, gf2, dual, truncate, restrict, contract, union, no_trees, more_trees, tree_count, trees_from, depth, greatest_depth}
-use Rattle.mat_words.specs.Lines.{Line}
-use Rattle.mat_desc.specs.Notations.{Naming, words_for, IsNaming}
-use Rattle.mat_problem.specs.Limits.{most_sets, most_digits, deepest}
-use Rattle.mat_sets.specs.Limits.{most_vertices, most_elements, most_matroids}
-use Rattle.mat_desc.specs.declared.read.keywords.Keyword.{Keyword}
 use Rattle.mat_desc.specs.declared.read.keywords.Keyword.TheVariants as keywords
-use Rattle.mat_words.specs.Cursors.{WordsLeft, LinesLeft}
-use Rattle.mat_words.specs.Steps.{◌>>=◌, repeat_at}
 use Rattle.mat_words.specs.Reading.{word_at as word_read}
-use Rattle.mat_desc.specs.Faults.{Fault}
-use Rattle.mat_desc.specs.Reading.{line_at, word_at, size_at, ended_at, elements_at, uniform_at, partition_at}
-use Rattle.mat_desc.specs.Reading.{laminar_at, ends_line_at, graphic_at, column_at, gf2_at, TreeReader, dual_at}
-use Rattle.mat_desc.specs.Reading.{truncate_at, restrict_at, contract_at, union_at, keyword_of, kind_at, matroid_within, matroid_at}
-use Rattle.mat_problem.specs.Validity.{IsPairBelow, IsValidTree, IsValidMatroid, AreClasses, AreNestedSets, AreValidTrees}
-use Rattle.mat_desc.specs.Grammar.{MatroidLines, TreeLines, ends_line, column_line}
-use Rattle.mat_words.proofs.ReadingSteps.{found-same, bind_found}
-use Rattle.mat_words.proofs.WordReading.{size_again, numerals_words}
-use Rattle.mat_words.proofs.LineReading.{AreLeft, line_again}
 use Rattle.mat_desc.proofs.Told.{cut_then, word_found, ended_found, ended_again, size_found, line_found}
 use Rattle.mat_desc.proofs.NotationLaws.{words_for-words}
 use Rattle.mat_desc.proofs.ElementLaws.{elements_found, Lists-read, IsSet-read, listed_below, set_again}
 use Rattle.mat_desc.proofs.ClassLaws.{classes_again}
 use Rattle.mat_desc.proofs.NestedSetLaws.{nested_sets_again}
-use Rattle.mat_words.proofs.ItemLines.{items_again}
 use Rattle.mat_desc.proofs.ItemLaws.{ends_line_again, column_again}
-use Rattle.mat_problem.proofs.SoundProblems.{IsColumn}
 use Rattle.mat_desc.proofs.KindLaws.{spelling_of, keyword_found, IsKindRead, uniform_found, partition_found, laminar_found, graphic_found, gf2_found}
 use Rattle.mat_desc.proofs.LinkedKindLaws.{transversal_found, transversal_again, gammoid_found, gammoid_again}
 

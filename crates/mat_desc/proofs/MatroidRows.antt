@@ -1,17 +1,6 @@
 -- The lines of matroids that stand one after the other: what is read is spelled so, and what is spelled so is read.
-use Rattle.std.proofs.Common.{◌≡◌, ℕ, zero, suc, List, [], ◌∷◌, length, Ok, refl, ap, subst}
+use Rattle.mat_desc.proofs.Common.{◌≡◌, ℕ, zero, suc, List, [], ◌∷◌, length, Ok, refl, ap, subst, All-nil, All-cons, All-head, All-tail, Line, Tree, Naming, IsNaming, LinesLeft, repeat_at, matroid_at, IsValidMatroid, MatroidsLines, found-same, bind_found, AreLeft}
 use Rattle.std.specs.List.{All}
-use Rattle.std.proofs.lemmas.List.Elements.{All-nil, All-cons, All-head, All-tail}
-use Rattle.mat_words.specs.Lines.{Line}
-use Rattle.mat_any.specs.Trees.{Tree}
-use Rattle.mat_desc.specs.Notations.{Naming, IsNaming}
-use Rattle.mat_words.specs.Cursors.{LinesLeft}
-use Rattle.mat_words.specs.Steps.{repeat_at}
-use Rattle.mat_desc.specs.Reading.{matroid_at}
-use Rattle.mat_problem.specs.Validity.{IsValidMatroid}
-use Rattle.mat_desc.specs.Grammar.{MatroidsLines}
-use Rattle.mat_words.proofs.ReadingSteps.{found-same, bind_found}
-use Rattle.mat_words.proofs.LineReading.{AreLeft}
 use Rattle.mat_desc.proofs.MatroidLaws.{matroid_found, matroid_again}
 
 -- as many matroids were read

@@ -1,18 +1,11 @@
 -- The search for an earlier set that crosses the next one, among those that share a member with it: no other crosses it.
-use Rattle.std.proofs.Common.{◌≡◌, ℕ, ◌+◌, ◌-◌, ◌<◌, ◌≤◌, true, false, ◌&&◌, ◌||◌, eqb, List, [], length, get_or, length-drop, length-take, take, drop, Option, Some, None, inl, inr, refl, sym, ap, ◌∙◌, arith}
-use Rattle.std.specs.Prelude.{MatchOption, is_some}
-use Rattle.std.proofs.lemmas.Bool.{and_parts, both_ways, cases_eq, cases_lt, eq-eqb, false_from_ne_true, or_cases, or_left, or_right, eqb-true}
-use Rattle.std.proofs.lemmas.List.{get_or_past, get_or-drop, get_or-take}
-use Rattle.mat_sets.specs.Rows.{row_at}
+use Rattle.mat_desc.proofs.Common.{◌≡◌, ℕ, ◌+◌, ◌-◌, ◌<◌, ◌≤◌, true, false, ◌&&◌, ◌||◌, eqb, List, [], length, get_or, length-drop, length-take, take, drop, Option, Some, None, inl, inr, refl, sym, ap, ◌∙◌, arith, MatchOption, is_some, and_parts, both_ways, cases_eq, cases_lt, eq-eqb}
+use Rattle.mat_desc.proofs.Common.{false_from_ne_true, or_cases, or_left, or_right, eqb-true, get_or_past, get_or-drop, get_or-take, row_at, is_member, IsPlaceTable, is_crossed-search, AreMeeting}
 use Rattle.mat_sets.specs.Search.{IsFirstFrom}
-use Rattle.mat_sets.specs.Sets.{is_member}
 use Rattle.mat_sets.proofs.Steps.{is_member-take_more}
 use Rattle.mat_count.specs.Laminar.{crosses, is_crossed}
 use Rattle.mat_count.specs.LaminarFaults.{IsFirstCrossing, NoneCrosses}
-use Rattle.mat_count.specs.LaminarMatroids.{IsPlaceTable}
-use Rattle.mat_count.proofs.CrossedSets.{is_crossed-search}
 use Rattle.mat_count.proofs.SharedMembers.{crosses-apart}
-use Rattle.mat_desc.specs.EarlierSets.{AreMeeting}
 
 -- ---- the places of the sets that share a member with the next
 

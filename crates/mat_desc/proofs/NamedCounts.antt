@@ -1,8 +1,5 @@
 -- A problem in range has few elements and few vertices, so there are numbered names for all of them.
-use Rattle.std.proofs.Common.{◌<◌, ◌^◌, arith}
-use Rattle.mat_problem.specs.Validity.{IsValid}
-use Rattle.mat_problem.specs.Instances.{Instance, pair, list, graph, rooted, coloured, table}
-use Rattle.mat_desc.specs.Notations.{count_of_elements, count_of_vertices}
+use Rattle.mat_desc.proofs.Common.{◌<◌, ◌^◌, arith, IsValid, Instance, pair, list, graph, rooted, coloured, table, count_of_elements, count_of_vertices}
 
 pub few_elements : (instance : Instance) → IsValid instance → count_of_elements instance < 2 ^ 32
 few_elements (pair weights first second) valid = omega (arith, valid.0.0)

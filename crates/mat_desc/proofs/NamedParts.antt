@@ -1,13 +1,5 @@
 -- What is written with names: the number of the names bounds the numbers that are written.
-use Rattle.std.proofs.Common.{◌≡◌, ℕ, ◌<◌, List, [], ◌∷◌, length, map, get_or, Some, None, ap, subst, ◌∙◌, arith}
-use Rattle.std.specs.Prelude.{IfSome, All}
-use Rattle.std.proofs.lemmas.List.{get_or-map, length-map}
-use Rattle.std.proofs.lemmas.List.Elements.{All-nil, All-cons}
-use Rattle.mat_any.specs.Trees.{Tree, trees_from}
-use Rattle.mat_any.specs.Views.{tree_of}
-use Rattle.mat_any.specs.declared.any.AnyMatroid.{AnyMatroid}
-use Rattle.mat_problem.specs.Validity.{IsValidTree, AreValidTrees}
-use Rattle.mat_desc.specs.Notations.{Naming}
+use Rattle.mat_desc.proofs.Common.{◌≡◌, ℕ, ◌<◌, List, [], ◌∷◌, length, map, get_or, Some, None, ap, subst, ◌∙◌, arith, IfSome, All, get_or-map, length-map, All-nil, All-cons, Tree, trees_from, tree_of, AnyMatroid, IsValidTree, AreValidTrees, Naming}
 
 -- what follows from a fact of the number of the names
 pub where_named : (naming : Naming) (P Q : ℕ → Type 0) → ((n : ℕ) → P n → Q n) → IfSome naming (λ listed. P (length listed))

@@ -1,26 +1,9 @@
 -- Set lines: what is read is spelled so, and what is spelled so is read. The sets that were read before are a laminar family, and remain one
 -- with each further set that none of them crosses.
-use Rattle.std.proofs.Common.{◌≡◌, ℕ, zero, suc, ◌<◌, ◌≤◌, ◌^◌, false, List, []}
-use Rattle.std.proofs.Common.{◌∷◌, ◌++◌, length, Ok, refl, sym, ap, subst, ◌∙◌, arith}
-use Rattle.std.specs.Prelude.{codes}
+use Rattle.mat_desc.proofs.Common.{◌≡◌, ℕ, zero, suc, ◌<◌, ◌≤◌, ◌^◌, false, List, [], ◌∷◌, ◌++◌, length, Ok, refl, sym, ap, subst, ◌∙◌, arith, codes, append_assoc, append-nil, All-nil, All-cons, All-head, All-tail, All-weaker, AllBelow, IsSet, Line, IsLaminar, IsLaminarFamily-nil}
+use Rattle.mat_desc.proofs.Common.{IsLaminarFamily-more, IsLaminarFamily-free, most_sets, most_elements, Crossing, WordsLeft, LinesLeft, Naming, IsNaming, keyed_at, size_at, elements_at, nested_set_at, nested_sets_at, Lists, CappedLines, AreNestedSets, found-same, bind_found, refused_found, AreLeft}
 use Rattle.std.specs.List.{All}
-use Rattle.std.proofs.lemmas.List.{append_assoc, append-nil}
-use Rattle.std.proofs.lemmas.List.Elements.{All-nil, All-cons, All-head, All-tail, All-weaker}
-use Rattle.mat_sets.specs.Sets.{AllBelow, IsSet}
-use Rattle.mat_words.specs.Lines.{Line}
 use Rattle.mat_count.specs.Laminar.{is_crossed, IsLaminarFamily}
-use Rattle.mat_count.specs.LaminarMatroids.{IsLaminar}
-use Rattle.mat_count.proofs.CrossedSets.{IsLaminarFamily-nil, IsLaminarFamily-more, IsLaminarFamily-free}
-use Rattle.mat_problem.specs.Limits.{most_sets}
-use Rattle.mat_sets.specs.Limits.{most_elements}
-use Rattle.mat_desc.specs.declared.refusal.DescKind.TheVariants.{Crossing}
-use Rattle.mat_words.specs.Cursors.{WordsLeft, LinesLeft}
-use Rattle.mat_desc.specs.Notations.{Naming, IsNaming}
-use Rattle.mat_desc.specs.Reading.{keyed_at, size_at, elements_at, nested_set_at, nested_sets_at}
-use Rattle.mat_desc.specs.Grammar.{Lists, CappedLines}
-use Rattle.mat_problem.specs.Validity.{AreNestedSets}
-use Rattle.mat_words.proofs.ReadingSteps.{found-same, bind_found, refused_found}
-use Rattle.mat_words.proofs.LineReading.{AreLeft}
 use Rattle.mat_desc.proofs.CappedLineLaws.{listed_line, capped_at, capped_steps, capped_read, capped_again}
 use Rattle.mat_desc.proofs.ElementLaws.{with_each}
 

@@ -1,13 +1,6 @@
 -- Set lines that are read one after the other, as a loop reads them.
-use Rattle.std.proofs.Common.{◌≡◌, ℕ, suc, ◌-◌, ◌+◌, ◌≤◌, ◌<◌, List, []}
-use Rattle.std.proofs.Common.{◌∷◌, ◌++◌, Ok, Err, sym, ap₂, ◌∙◌, refl, arith}
-use Rattle.std.proofs.lemmas.List.{append-nil}
+use Rattle.mat_desc.proofs.Common.{◌≡◌, ℕ, suc, ◌-◌, ◌+◌, ◌≤◌, ◌<◌, List, [], ◌∷◌, ◌++◌, Ok, Err, sym, ap₂, ◌∙◌, refl, arith, append-nil, LinesLeft, Fails, DescRefusal, Naming, nested_set_at, nested_sets_at}
 use Rattle.mat_words.specs.declared.refusal.Refusal.TheVariants as refusals
-use Rattle.mat_words.specs.Cursors.{LinesLeft}
-use Rattle.mat_words.specs.Reading.{Fails}
-use Rattle.mat_desc.specs.Faults.{DescRefusal}
-use Rattle.mat_desc.specs.Notations.{Naming}
-use Rattle.mat_desc.specs.Reading.{nested_set_at, nested_sets_at}
 use Rattle.mat_desc.proofs.Classes.{SetsRead, with_front, with_front-cons}
 
 -- one more set was read

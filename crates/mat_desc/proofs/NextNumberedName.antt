@@ -1,11 +1,5 @@
 -- The next of numbered names isn't among those before it, so it goes behind them.
-use Rattle.std.proofs.Common.{◌≡◌, ℕ, ◌+◌, ◌<◌, false, [], ◌∷◌, ◌++◌, pos, Option, Some, None, is_some}
-use Rattle.std.proofs.Common.{if◌then◌else◌, refl, sym, ap, ◌∙◌, arith}
-use Rattle.mat_sets.proofs.Ground.{map-all_below_more}
-use Rattle.mat_words.specs.Numbers.{numeral}
-use Rattle.mat_words.specs.Names.{name_index, is_among, with_name}
-use Rattle.mat_words.proofs.NameLemmas.{name_index-found}
-use Rattle.mat_desc.specs.Notations.{numbered}
+use Rattle.mat_desc.proofs.Common.{◌≡◌, ℕ, ◌+◌, ◌<◌, false, [], ◌∷◌, ◌++◌, pos, Option, Some, None, is_some, if◌then◌else◌, refl, sym, ap, ◌∙◌, arith, map-all_below_more, numeral, name_index, is_among, with_name, name_index-found, numbered}
 use Rattle.mat_desc.proofs.NumberedNames.{numeral-same, length-numbered, get_or-numbered}
 
 same_numeral : (letter x y : ℕ) → letter ∷ numeral (pos x) ≡ letter ∷ numeral (pos y) → numeral (pos x) ≡ numeral (pos y)

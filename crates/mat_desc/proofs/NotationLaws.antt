@@ -1,32 +1,14 @@
 -- Names of elements and of vertices, and the words that stand for numbers: what is read is spelled so, and what is spelled so is read.
-use Rattle.std.proofs.Common.{◌≡◌, ℕ, zero, suc, ◌-◌, ◌+◌, ◌≤◌, ◌<◌, ◌^◌, true, cond, List, [], ◌∷◌, ◌++◌, length, get_or}
-use Rattle.std.proofs.Common.{pos, Option, Some, None, Result, Ok, Err, refl, sym, ap, subst, ◌∙◌, arith}
-use Rattle.std.specs.Prelude.{codes, nat_lt}
+use Rattle.mat_desc.proofs.Common.{◌≡◌, ℕ, zero, suc, ◌-◌, ◌+◌, ◌≤◌, ◌<◌, ◌^◌, true, cond, List, [], ◌∷◌, ◌++◌, length, get_or, pos, Option, Some, None, Result, Ok, Err, refl, sym, ap, subst, ◌∙◌, arith, codes, nat_lt, and_from, and_parts, append_assoc, append-nil, length-append, length_push}
+use Rattle.mat_desc.proofs.Common.{AllBelow, WordsLeft, LinesLeft, Line, longest_name, is_name, name_index, is_among, AreNames, is_word, AreLeft, keyed_again, name_index-found, name_index-at, is_among-later, is_name-short, is_name-parts, name_word, names_words, no_names, names-push, numeral_word}
+use Rattle.mat_desc.proofs.Common.{found-same, bind_found, refused_found, below_again, word_again, Version, NameSpelling, Repeated, Fails, Fault, refusal_of, vertex_name_lines, name_lines, Naming, word_for, words_for, IsNaming, Notation, numbers, names, element_naming, vertex_naming, keyed_at}
+use Rattle.mat_desc.proofs.Common.{word_at, ended_at, named_as, member_at, names_from, names_line_at, vertex_names_at, notation_at}
 use Rattle.std.specs.List.{list_all}
 use Rattle.std.proofs.Math.Seq.{get_or-append_seam}
-use Rattle.std.proofs.lemmas.Bool.{and_from, and_parts}
-use Rattle.std.proofs.lemmas.List.{append_assoc, append-nil, length-append, length_push}
-use Rattle.mat_sets.specs.Sets.{AllBelow}
-use Rattle.mat_words.specs.Cursors.{WordsLeft, LinesLeft}
-use Rattle.mat_words.specs.Lines.{Line}
-use Rattle.mat_words.specs.Names.{longest_name, is_name, name_index, is_among, AreNames}
 use Rattle.mat_words.specs.Reading as reading
-use Rattle.mat_words.specs.Words.{is_word}
 use Rattle.mat_words.specs.declared.refusal.{ReadingFault.{ReadingFault}, Refusal.{Refusal}}
 use Rattle.mat_words.specs.declared.refusal.Refusal.TheVariants as readings
-use Rattle.mat_words.proofs.LineReading.{AreLeft, keyed_again}
-use Rattle.mat_words.proofs.NameLemmas.{name_index-found, name_index-at, is_among-later, is_name-short, is_name-parts, name_word, names_words, no_names, names-push}
-use Rattle.mat_words.proofs.NumberLemmas.{numeral_word}
-use Rattle.mat_words.proofs.ReadingSteps.{found-same, bind_found, refused_found}
-use Rattle.mat_words.proofs.WordReading.{below_again, word_again}
-use Rattle.mat_desc.specs.declared.read.keywords.Version.{Version}
 use Rattle.mat_desc.specs.declared.read.keywords.Version.TheVariants as versions
-use Rattle.mat_desc.specs.declared.refusal.DescKind.TheVariants.{NameSpelling, Repeated}
-use Rattle.mat_words.specs.Reading.{Fails}
-use Rattle.mat_desc.specs.Faults.{Fault, refusal_of}
-use Rattle.mat_desc.specs.Grammar.{vertex_name_lines, name_lines}
-use Rattle.mat_desc.specs.Notations.{Naming, word_for, words_for, IsNaming, Notation, numbers, names, element_naming, vertex_naming}
-use Rattle.mat_desc.specs.Reading.{keyed_at, word_at, ended_at, named_as, member_at, names_from, names_line_at, vertex_names_at, notation_at}
 use Rattle.mat_desc.proofs.Told.{keyed_found, keyed_words, word_found, word_line, below_found, ended_found, ended_again}
 
 -- ---- a number, by its numeral or by its name

@@ -1,21 +1,10 @@
 -- A letter with each number below n: these are names, since numbers that differ have numerals that differ, and short ones where they are small.
-use Rattle.std.proofs.Common.{◌≡◌, ℕ, zero, suc, ◌+◌, ◌<◌, ◌≤◌, ◌^◌, true, List, [], ◌∷◌, ◌++◌, length, get_or, pos}
-use Rattle.std.proofs.Common.{Some, sym, ap, ◌∙◌, arith}
-use Rattle.std.specs.Prelude.{nat_le}
+use Rattle.mat_desc.proofs.Common.{◌≡◌, ℕ, zero, suc, ◌+◌, ◌<◌, ◌≤◌, ◌^◌, true, List, [], ◌∷◌, ◌++◌, length, get_or, pos, Some, sym, ap, ◌∙◌, arith, nat_le, and_from, le-leb, get_or-map, length-map, All-from_get_or, all_below, get_or-all_below, length-all_below, numeral, number_of, is_letter}
+use Rattle.mat_desc.proofs.Common.{is_word, longest_name, is_name, AreNames, read_again, numeral_word, numbered}
 use Rattle.std.specs.List.{list_all}
 use Rattle.std.specs.Int.Digits.{digits_of}
-use Rattle.std.proofs.lemmas.Bool.{and_from, le-leb}
 use Rattle.std.proofs.lemmas.Int.Digits.{length-digits_of-le}
-use Rattle.std.proofs.lemmas.List.{get_or-map, length-map}
-use Rattle.std.proofs.lemmas.List.Elements.{All-from_get_or}
-use Rattle.mat_sets.specs.Sets.{all_below}
-use Rattle.mat_sets.proofs.Ground.{get_or-all_below, length-all_below}
-use Rattle.mat_words.specs.Numbers.{numeral, number_of}
-use Rattle.mat_words.specs.Words.{is_letter, is_word}
-use Rattle.mat_words.specs.Names.{longest_name, is_name, AreNames}
-use Rattle.mat_words.proofs.NumberLemmas.{read_again, numeral_word}
 use Rattle.mat_words.proofs.WordLemmas.{word_letters}
-use Rattle.mat_desc.specs.Notations.{numbered}
 
 some_number : (x y : ℕ) → Some (pos x) ≡ Some (pos y) → x ≡ y
 some_number x y e = cc

@@ -1,17 +1,7 @@
 -- What is known of a problem that was read.
-use Rattle.std.proofs.Common.{◌≡◌, ◌<◌, ◌^◌, ℕ, true, List, [], ◌∷◌, Some, ◌⊎◌, inl, inr, Result, Ok, Err, IfOk, refl, sym, ap, subst, ◌∙◌}
-use Rattle.std.specs.Prelude.{◌↔◌}
-use Rattle.mat_words.specs.Words.{is_letter}
-use Rattle.mat_words.specs.Steps.{◌>>=◌}
+use Rattle.mat_desc.proofs.Common.{◌≡◌, ◌<◌, ◌^◌, ℕ, true, List, [], ◌∷◌, Some, ◌⊎◌, inl, inr, Result, Ok, Err, IfOk, refl, sym, ap, subst, ◌∙◌, ◌↔◌, is_letter, ◌>>=◌, Gives, DescRefusal, Fault, IsValid, Spells, SpellsNamed, Instance, Notation, numbers, names, IsNaming, IsNotationFor, NamedInstance}
+use Rattle.mat_desc.proofs.Common.{named_by, numbered, count_of_elements, count_of_vertices, WrittenInstance, written_of, read_of, named_of}
 use Rattle.mat_words.specs.declared.refusal.Refusal.TheVariants as refusals
-use Rattle.mat_words.specs.Reading.{Gives}
-use Rattle.mat_desc.specs.Faults.{DescRefusal, Fault}
-use Rattle.mat_problem.specs.Validity.{IsValid}
-use Rattle.mat_desc.specs.Grammar.{Spells, SpellsNamed}
-use Rattle.mat_problem.specs.Instances.{Instance}
-use Rattle.mat_desc.specs.Notations.{Notation, numbers, names, IsNaming, IsNotationFor, NamedInstance, named_by, numbered}
-use Rattle.mat_desc.specs.Notations.{count_of_elements, count_of_vertices}
-use Rattle.mat_desc.specs.Reading.{WrittenInstance, written_of, read_of, named_of}
 use Rattle.mat_desc.proofs.NumberedNames.{AreNames-numbered, length-numbered}
 use Rattle.mat_desc.proofs.InstanceLaws.{description_found, read_found, read_again, named_found, named_again}
 use Rattle.mat_desc.proofs.NamedCounts.{few_elements, few_vertices}

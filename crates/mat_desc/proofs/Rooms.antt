@@ -1,10 +1,6 @@
 -- The next matroid where there is room for it: what its keyword reads, with room for one fewer within it.
-use Rattle.std.proofs.Common.{◌≡◌, ℕ, zero, suc, ◌<◌, ◌-◌, List, Some, Ok, refl, sym, subst, arith}
-use Rattle.mat_words.specs.Cursors.{WordsLeft, LinesLeft}
+use Rattle.mat_desc.proofs.Common.{◌≡◌, ℕ, zero, suc, ◌<◌, ◌-◌, List, Some, Ok, refl, sym, subst, arith, WordsLeft, LinesLeft, Keyword, Naming, keyword_of, kind_at, matroid_within}
 use Rattle.mat_words.specs.Reading as reading
-use Rattle.mat_desc.specs.declared.read.keywords.Keyword.{Keyword}
-use Rattle.mat_desc.specs.Notations.{Naming}
-use Rattle.mat_desc.specs.Reading.{keyword_of, kind_at, matroid_within}
 
 within_more : (room : ℕ) (naming : Naming) (n : ℕ) (p : LinesLeft) (words : WordsLeft) (lines : LinesLeft) (first : List ℕ)
     (others : WordsLeft) (k : Keyword)

@@ -1,19 +1,7 @@
 -- A line of a keyword and a set, and the set lines of a family: what is read is spelled so, and what is spelled so is read.
-use Rattle.std.proofs.Common.{◌≤◌, ◌≡◌, ℕ, zero, suc, ◌<◌, ◌^◌, true, List, [], ◌∷◌, length, Ok, refl, ap, subst, arith}
-use Rattle.std.specs.Prelude.{codes}
+use Rattle.mat_desc.proofs.Common.{◌≤◌, ◌≡◌, ℕ, zero, suc, ◌<◌, ◌^◌, true, List, [], ◌∷◌, length, Ok, refl, ap, subst, arith, codes, All-nil, All-cons, All-head, All-tail, All-weaker, AllBelow, IsSet, is_word, Line, most_sets, LinesLeft, repeat_at, Naming, words_for, IsNaming, keyed_at, elements_at}
+use Rattle.mat_desc.proofs.Common.{set_line_at, Lists, FamilyLines, listing_line, found-same, bind_found, AreLeft, keyed_again}
 use Rattle.std.specs.List.{All}
-use Rattle.std.proofs.lemmas.List.Elements.{All-nil, All-cons, All-head, All-tail, All-weaker}
-use Rattle.mat_sets.specs.Sets.{AllBelow, IsSet}
-use Rattle.mat_words.specs.Words.{is_word}
-use Rattle.mat_words.specs.Lines.{Line}
-use Rattle.mat_problem.specs.Limits.{most_sets}
-use Rattle.mat_words.specs.Cursors.{LinesLeft}
-use Rattle.mat_words.specs.Steps.{repeat_at}
-use Rattle.mat_desc.specs.Notations.{Naming, words_for, IsNaming}
-use Rattle.mat_desc.specs.Reading.{keyed_at, elements_at, set_line_at}
-use Rattle.mat_desc.specs.Grammar.{Lists, FamilyLines, listing_line}
-use Rattle.mat_words.proofs.ReadingSteps.{found-same, bind_found}
-use Rattle.mat_words.proofs.LineReading.{AreLeft, keyed_again}
 use Rattle.mat_desc.proofs.Told.{keyed_found}
 use Rattle.mat_desc.proofs.NotationLaws.{words_for-words}
 use Rattle.mat_desc.proofs.ElementLaws.{elements_found, Lists-read, IsSet-read, listed_below, set_again}

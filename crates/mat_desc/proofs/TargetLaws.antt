@@ -1,18 +1,6 @@
 -- Different numbers on a line, and the line of the targets: what is read is spelled so, and what is spelled so is read.
-use Rattle.std.proofs.Common.{◌≡◌, ℕ, zero, suc, ◌<◌, ◌^◌, true, false, List, [], None}
-use Rattle.std.proofs.Common.{◌∷◌, ◌++◌, length, pos, Ok, refl, ap, subst, ◌∙◌, arith}
-use Rattle.std.specs.Prelude.{codes}
-use Rattle.std.proofs.lemmas.Bool.{eq-eqb}
-use Rattle.std.proofs.lemmas.List.{append-nil}
-use Rattle.mat_sets.specs.Sets.{is_member, with_one, AllBelow, AreDistinct}
-use Rattle.mat_words.specs.Numbers.{numeral, numerals}
-use Rattle.mat_words.specs.Lines.{Line}
-use Rattle.mat_desc.specs.declared.refusal.DescKind.TheVariants.{Repeated}
-use Rattle.mat_words.specs.Cursors.{WordsLeft, LinesLeft}
-use Rattle.mat_desc.specs.Reading.{keyed_at, below_at, ended_at, distinct_at, targets_at, set_line_at}
-use Rattle.mat_words.proofs.ReadingSteps.{found-same, bind_found, refused_found}
-use Rattle.mat_words.proofs.WordReading.{below_again, numerals_words}
-use Rattle.mat_words.proofs.LineReading.{AreLeft, keyed_again}
+use Rattle.mat_desc.proofs.Common.{◌≡◌, ℕ, zero, suc, ◌<◌, ◌^◌, true, false, List, [], None, ◌∷◌, ◌++◌, length, pos, Ok, refl, ap, subst, ◌∙◌, arith, codes, eq-eqb, append-nil, is_member, with_one, AllBelow, AreDistinct, numeral, numerals, Line, Repeated, WordsLeft, LinesLeft, keyed_at, below_at}
+use Rattle.mat_desc.proofs.Common.{ended_at, distinct_at, targets_at, set_line_at, found-same, bind_found, refused_found, below_again, numerals_words, AreLeft, keyed_again}
 use Rattle.mat_desc.proofs.Told.{below_found, ended_found, ended_again, keyed_found}
 use Rattle.mat_desc.proofs.ElementLaws.{fresh_first, later_free}
 use Rattle.mat_desc.proofs.ItemLaws.{ends_lines_sound}

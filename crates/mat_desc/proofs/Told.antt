@@ -1,22 +1,11 @@
 -- Reading lines, words, numbers and weights, as a description tells of it: what is told was read, and so is spelled.
-use Rattle.std.proofs.Common.{◌≡◌, ℕ, true, eqb, List, [], ◌∷◌, length, pos, Ok, refl, ap, ◌∙◌, arith}
-use Rattle.std.specs.Prelude.{neg_ℤ}
+use Rattle.mat_desc.proofs.Common.{◌≡◌, ℕ, true, eqb, List, [], ◌∷◌, length, pos, Ok, refl, ap, ◌∙◌, arith, neg_ℤ, eqb-true, Weight, is_word, numeral, Line, WordsLeft, LinesLeft, test_found, told_found, largest_weight, TooManyWords, kind_of, line_at, keyed_at, word_at, size_at, below_at, binary_at}
+use Rattle.mat_desc.proofs.Common.{weight_at, next_weights_at, ended_at}
 use Rattle.std.specs.List.{list_all}
-use Rattle.std.proofs.lemmas.Bool.{eqb-true}
-use Rattle.mat_sets.specs.declared.weight.Weight.{Weight}
-use Rattle.mat_words.specs.Words.{is_word}
-use Rattle.mat_words.specs.Numbers.{numeral}
-use Rattle.mat_words.specs.Lines.{Line}
-use Rattle.mat_words.specs.Cursors.{WordsLeft, LinesLeft}
 use Rattle.mat_words.specs.Reading as reading
-use Rattle.mat_words.proofs.ReadingSteps.{test_found, told_found}
 use Rattle.mat_words.proofs.WordReading as words
 use Rattle.mat_words.proofs.BinaryLaws as digits
 use Rattle.mat_words.proofs.LineReading as lines
-use Rattle.mat_sets.specs.Limits.{largest_weight}
-use Rattle.mat_desc.specs.declared.refusal.DescKind.TheVariants.{TooManyWords}
-use Rattle.mat_desc.specs.Faults.{kind_of}
-use Rattle.mat_desc.specs.Reading.{line_at, keyed_at, word_at, size_at, below_at, binary_at, weight_at, next_weights_at, ended_at}
 
 -- ---- what is read
 

@@ -1,12 +1,6 @@
 -- The lines of a union, whose matroids are the items of a list.
-use Rattle.std.proofs.Common.{◌≡◌, suc, List, [], ◌∷◌, ◌++◌, length, pos, refl, ap, ◌∙◌}
+use Rattle.mat_desc.proofs.Common.{◌≡◌, suc, List, [], ◌∷◌, ◌++◌, length, pos, refl, ap, ◌∙◌, codes, numeral, Line, Tree, union, tree_count, trees_from, Naming, matroid_lines, tree_lines}
 use Rattle.std.specs.List.{flat_map}
-use Rattle.std.specs.Prelude.{codes}
-use Rattle.mat_words.specs.Numbers.{numeral}
-use Rattle.mat_words.specs.Lines.{Line}
-use Rattle.mat_any.specs.Trees.{Tree, union, tree_count, trees_from}
-use Rattle.mat_desc.specs.Notations.{Naming}
-use Rattle.mat_desc.specs.Canonical.{matroid_lines, tree_lines}
 
 count_from : (trees : List Tree) → tree_count (trees_from trees) ≡ length trees
 count_from [] = refl

@@ -1,19 +1,8 @@
 -- The text that is written line by line: the lines of a list of items are those of one item after the other.
-use Rattle.std.proofs.Common.{◌≡◌, ℕ, ◌+◌, ◌<◌, ◌≤◌, List, [], ◌∷◌, ◌++◌, length}
-use Rattle.std.proofs.Common.{map, min, take, get_or, sym, ap, ◌∙◌, refl, arith, pos}
+use Rattle.mat_desc.proofs.Common.{◌≡◌, ℕ, ◌+◌, ◌<◌, ◌≤◌, List, [], ◌∷◌, ◌++◌, length, map, min, take, get_or, sym, ap, ◌∙◌, refl, arith, pos, append_assoc, take_all, get_or-zip, length-zip, Line, text_of, numeral, end_line, spaced, text_of-append, item_written, words_written, version_line}
+use Rattle.mat_desc.proofs.Common.{name_lines, Instance, Notation, header, body_lines, canonical_lines}
 use Rattle.std.specs.List.{flat_map, zip}
-use Rattle.std.proofs.lemmas.List.{append_assoc, take_all}
 use Rattle.std.proofs.lemmas.List.Concat.{flat_map_single}
-use Rattle.std.proofs.lemmas.Slice.Zip.{get_or-zip, length-zip}
-use Rattle.mat_words.specs.Lines.{Line, text_of}
-use Rattle.mat_words.specs.Numbers.{numeral}
-use Rattle.mat_words.specs.Writing.{end_line, spaced}
-use Rattle.mat_words.proofs.LineLemmas.{text_of-append}
-use Rattle.mat_words.proofs.WrittenLines.{item_written, words_written}
-use Rattle.mat_desc.specs.Grammar.{version_line, name_lines}
-use Rattle.mat_problem.specs.Instances.{Instance}
-use Rattle.mat_desc.specs.Notations.{Notation}
-use Rattle.mat_desc.specs.Canonical.{header, body_lines, canonical_lines}
 
 -- ---- one line
 

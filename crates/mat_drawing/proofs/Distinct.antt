@@ -1,10 +1,5 @@
 -- Attributes of different names, each of which is there or not, have different names.
-use Rattle.std.proofs.Common.{◌≡◌, ℕ, true, false, not, Option, Some, None, List, [], ◌∷◌, ◌++◌, map, refl, subst, sym}
-use Rattle.std.specs.Prelude.{bytes_eq}
-use Rattle.std.proofs.lemmas.Bool.{and_from, and_parts, not-true, not_from_false, or_from, or_parts}
-use Rattle.mat_drawing.specs.Attributes.{attribute_names}
-use Rattle.mat_drawing.specs.Markup.{attribute_of, attributes_of}
-use Rattle.mat_drawing.specs.Names.{are_distinct, is_among}
+use Rattle.mat_drawing.proofs.Common.{◌≡◌, ℕ, true, false, not, Option, Some, None, List, [], ◌∷◌, ◌++◌, map, refl, subst, sym, bytes_eq, and_from, and_parts, not-true, not_from_false, or_from, or_parts, attribute_names, attribute_of, attributes_of, are_distinct, is_among}
 
 -- the names of attributes
 abbrev names_of : List (List ℕ × List ℕ) → List (List ℕ)

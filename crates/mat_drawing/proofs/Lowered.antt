@@ -1,8 +1,7 @@
 -- Sums that stay at the end of 64 bits where they would leave them: a number to which the same is added again and again is the number with a
 -- multiple added at once.
-use Rattle.std.proofs.Common.{◌≡◌, ℕ, zero, suc, ◌+◌, ◌-◌, ◌^◌, ℤ, pos, negsuc, ◌+ℤ◌, ◌*ℤ◌, ◌<ℤ◌, ◌≤ℤ◌, FitsSigned, refl, ap, sym, ◌∙◌, arith}
+use Rattle.mat_drawing.proofs.Common.{◌≡◌, ℕ, zero, suc, ◌+◌, ◌-◌, ◌^◌, ℤ, pos, negsuc, ◌+ℤ◌, ◌*ℤ◌, ◌<ℤ◌, ◌≤ℤ◌, FitsSigned, refl, ap, sym, ◌∙◌, arith, ints, by_lt_z}
 use Rattle.std.proofs.Math.IntN.{suc_ℤ-*ℤ, zero-*ℤ}
-use Rattle.std.proofs.lemmas.Int.{ints, by_lt_z}
 use Rattle.std.specs.Int.{w64, saturate_signed}
 
 -- the greatest number of 64 bits, and the least

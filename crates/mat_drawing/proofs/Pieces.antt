@@ -1,16 +1,8 @@
 -- Each text that is made is spelled by a tree: the trees of its pieces, beside or within one another.
-use Rattle.std.proofs.Common.{◌≡◌, ℕ, Bool, true, false, ◌&&◌, if◌then◌else◌, Some, None, List, [], ◌∷◌, ◌++◌, codes, map, refl, ap, sym, subst, ◌∙◌, append_assoc, append-nil}
+use Rattle.mat_drawing.proofs.Common.{◌≡◌, ℕ, Bool, true, false, ◌&&◌, if◌then◌else◌, Some, None, List, [], ◌∷◌, ◌++◌, codes, map, refl, ap, sym, subst, ◌∙◌, append_assoc, append-nil, and_from, flat_map-append, map-append, list_all-append, attribute_names, entity, escaped, nothing, words}
+use Rattle.mat_drawing.proofs.Common.{empty_element, element, beside, are_attributes, attribute_of, attributes_of, is_attribute, is_well_formed, opening, spelled, spelled_attribute, AddsAttributes, AddsMarkup, IsElement, IsMarkup, are_distinct, is_name, printed, is_text_byte}
 use Rattle.std.specs.List.{flat_map, list_all}
-use Rattle.std.proofs.lemmas.Bool.{and_from}
-use Rattle.std.proofs.lemmas.Grind.{flat_map-append}
-use Rattle.std.proofs.lemmas.List.{map-append}
-use Rattle.std.proofs.lemmas.List.Folds.{list_all-append}
 use Rattle.mat_drawing.proofs.Distinct.{attributes_distinct}
-use Rattle.mat_drawing.specs.Attributes.{attribute_names}
-use Rattle.mat_drawing.specs.Escaping.{entity, escaped}
-use Rattle.mat_drawing.specs.Markup.{nothing, words, empty_element, element, beside, are_attributes, attribute_of, attributes_of, is_attribute, is_well_formed, opening, spelled, spelled_attribute, AddsAttributes, AddsMarkup, IsElement, IsMarkup}
-use Rattle.mat_drawing.specs.Names.{are_distinct, is_name, printed}
-use Rattle.mat_text.specs.Texts.{is_text_byte}
 
 byte_by_test : (b : ℕ) (p : Bool) → is_text_byte b ≡ p → is_text_byte (if p then b else 63) ≡ true
 byte_by_test b true e = e

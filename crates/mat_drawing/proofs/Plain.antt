@@ -1,8 +1,6 @@
 -- Escaped words are plain: so is each entity, and each byte that has none.
-use Rattle.std.proofs.Common.{◌≡◌, ℕ, Bool, true, false, ◌==◌, List, [], ◌∷◌, if◌then◌else◌, codes, refl}
+use Rattle.mat_drawing.proofs.Common.{◌≡◌, ℕ, Bool, true, false, ◌==◌, List, [], ◌∷◌, if◌then◌else◌, codes, refl, list_all-append, entity, escaped, is_plain}
 use Rattle.std.specs.List.{list_all}
-use Rattle.std.proofs.lemmas.List.Folds.{list_all-append}
-use Rattle.mat_drawing.specs.Escaping.{entity, escaped, is_plain}
 
 byte_plain : (b : ℕ) (p q r s : Bool) → (b == 60) ≡ q → (b == 62) ≡ r → (b == 34) ≡ s
     → list_all is_plain (if p then codes "&amp;" else if q then codes "&lt;" else if r then codes "&gt;" else if s then codes "&quot;" else b ∷ []) ≡ true

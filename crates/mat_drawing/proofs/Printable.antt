@@ -1,13 +1,8 @@
 -- Well-formed markup is printable: names, entities and what stands around them are.
-use Rattle.std.proofs.Common.{◌≡◌, ℕ, Bool, true, false, ◌==◌, ◌&&◌, if◌then◌else◌, List, [], ◌∷◌, ◌++◌, codes, map, refl, sym, subst, ◌∙◌, arith}
+use Rattle.mat_drawing.proofs.Common.{◌≡◌, ℕ, Bool, true, false, ◌==◌, ◌&&◌, if◌then◌else◌, List, [], ◌∷◌, ◌++◌, codes, map, refl, sym, subst, ◌∙◌, arith, and_from, and_parts, list_all-append, entity, escaped, Markup, nothing, words, empty_element, element, beside, are_attributes, is_attribute}
+use Rattle.mat_drawing.proofs.Common.{is_well_formed, opening, spelled, spelled_attribute, IsMarkup, are_distinct, is_letter, is_name, is_name_byte, is_text_byte}
 use Rattle.std.specs.List.{flat_map, list_all}
-use Rattle.std.proofs.lemmas.Bool.{and_from, and_parts}
 use Rattle.std.proofs.lemmas.Bool.Decides.{nat_tests}
-use Rattle.std.proofs.lemmas.List.Folds.{list_all-append}
-use Rattle.mat_drawing.specs.Escaping.{entity, escaped}
-use Rattle.mat_drawing.specs.Markup.{Markup, nothing, words, empty_element, element, beside, are_attributes, is_attribute, is_well_formed, opening, spelled, spelled_attribute, IsMarkup}
-use Rattle.mat_drawing.specs.Names.{are_distinct, is_letter, is_name, is_name_byte}
-use Rattle.mat_text.specs.Texts.{is_text_byte}
 
 -- two texts beside one another
 both : (first second : List ℕ) → list_all is_text_byte first ≡ true → list_all is_text_byte second ≡ true → list_all is_text_byte (first ++ second) ≡ true

@@ -1,21 +1,8 @@
 -- Weights of a reached set that are changed only at the end, by one number: what is kept of each member is its weight when it entered, less the
 -- change until then, so that a step of the change alters the number alone, and a new member alone gets a new entry.
-use Rattle.std.proofs.Common.{◌≡◌, ◌≢◌, ℕ, ◌^◌, ◌<◌, Bool, true, false, ◌&&◌, not, cond, eqb, List, Option, Some}
-use Rattle.std.proofs.Common.{None, ◌⊎◌, inl, inr, refl, sym, ap, ◌∙◌, subst, arith}
-use Rattle.std.proofs.lemmas.Bool.{cases_Bool, cases_eq, both_ways, and_parts, and_from, and_left, cond-true, cond-false, eq-eqb}
-use Rattle.std.proofs.lemmas.Bool.{false≢true, ne_eqb}
-use Rattle.std.proofs.lemmas.Int.{ints}
-use Rattle.mat_sets.specs.Sets.{is_member, with_one, without_one}
-use Rattle.mat_sets.proofs.Members.{is_member-without_one}
-use Rattle.mat_sets.specs.Weights.{zero_weight, ◌⊕◌, ◌⊖◌, ◌≼◌, is_below, IsWeightWithin}
-use Rattle.mat_sets.specs.declared.weight.Weight.{Weight}
-use Rattle.mat_sets.proofs.WeightOrder.{pairs, at_most_same, at_most_both, at_most_trans, below_at_most, not_below_gives}
-use Rattle.mat_laws.specs.TightPaths.{Exchanges}
-use Rattle.mat_exchange.specs.Changes.{lowered, raised}
-use Rattle.mat_exchange.specs.SlackParts.{IsAdditionSlack, IsLeast}
-use Rattle.mat_exchange.specs.HeaviestAddable.{IsHeaviestWeight, IsHeaviestWeightOrNone, greater_of}
-use Rattle.mat_exchange.specs.Growing.{IsFringe, IsOffered, excess_of, entry_gain}
-use Rattle.mat_laws.proofs.TightArcs.{heaviest_addable_gives, heaviest_addable_from}
+use Rattle.mat_exchange.proofs.Common.{◌≡◌, ◌≢◌, ℕ, ◌^◌, ◌<◌, Bool, true, false, ◌&&◌, not, cond, eqb, List, Option, Some, None, ◌⊎◌, inl, inr, refl, sym, ap, ◌∙◌, subst, arith, cases_Bool, cases_eq, both_ways, and_parts, and_from, and_left, cond-true, cond-false, eq-eqb, false≢true, ne_eqb, ints}
+use Rattle.mat_exchange.proofs.Common.{is_member, with_one, without_one, is_member-without_one, zero_weight, ◌⊕◌, ◌⊖◌, ◌≼◌, is_below, IsWeightWithin, Weight, pairs, at_most_same, at_most_both, at_most_trans, below_at_most, not_below_gives, Exchanges, lowered, raised, IsAdditionSlack, IsLeast}
+use Rattle.mat_exchange.proofs.Common.{IsHeaviestWeight, IsHeaviestWeightOrNone, greater_of, IsFringe, IsOffered, excess_of, entry_gain, heaviest_addable_gives, heaviest_addable_from}
 use Rattle.mat_exchange.proofs.NewMembers.{kept_member, new_member, other_member, new_or_kept}
 use Rattle.mat_exchange.proofs.WeightChanges.{lowered-member, lowered-outside, raised-member, raised-outside}
 

@@ -1,14 +1,7 @@
 -- The rows that a job computes, each at its number, are those of the elements whose rows are missing.
-use Rattle.std.proofs.Common.{◌≡◌, ℕ, ◌<◌, Bool, true, false, List, [], length, refl, subst, sym, ap, ◌∙◌, arith}
-use Rattle.std.proofs.lemmas.Bool.{cond-true}
-use Rattle.mat_sets.specs.Sets.{AllBelow, is_member}
-use Rattle.mat_laws.specs.declared.exchange.Exchange.{Exchange}
-use Rattle.mat_laws.specs.Exchanges.{row_of, rows_of}
-use Rattle.mat_laws.specs.Matroids.{IsMatroid}
-use Rattle.mat_laws.specs.TightPaths.{row_in}
+use Rattle.mat_exchange.proofs.Common.{◌≡◌, ℕ, ◌<◌, Bool, true, false, List, [], length, refl, subst, sym, ap, ◌∙◌, arith, cond-true, AllBelow, is_member, Exchange, row_of, rows_of, IsMatroid, row_in, AgreeOn}
 use Rattle.mat_work.specs.Rows.{StandFrom}
 use Rattle.mat_work.proofs.StandingRows.{StandFrom_at}
-use Rattle.mat_exchange.specs.RowTables.{AgreeOn}
 use Rattle.mat_exchange.proofs.RowExchanges.{length-rows_of, row_in-rows_of, rows-below}
 
 -- n rows, which are those at I of the elements whose rows are missing

@@ -1,20 +1,10 @@
 -- Where a set R has no slack, nothing leads out of it: no addition outside R in the first matroid, none inside R in the second, and no
 -- exchange across. For where something can be added there is a heaviest such element, and with it a slack. So R is a cut.
-use Rattle.std.proofs.Common.{◌≡◌, ℕ, suc, zero, ◌<◌, Bool, true, false, List, length, ◌⊎◌, inl, inr, refl, sym, ap, ◌∙◌, subst, arith}
-use Rattle.std.proofs.lemmas.Bool.{cases_Bool, cases_eq, ltb-true, both_ways, false_from_ne_true}
-use Rattle.std.proofs.lemmas.Int.{ints}
-use Rattle.mat_sets.specs.Sets.{is_member, IsSet, with_one, without_one, all_below}
-use Rattle.mat_sets.proofs.Ground.{below_member, IsRising-all_below, IsSubset-all_below, is_member-all_below}
-use Rattle.mat_sets.specs.Weights.{◌⊖◌, ◌≼◌}
-use Rattle.mat_sets.specs.declared.weight.Weight.{Weight}
-use Rattle.mat_sets.proofs.WeightOrder.{pairs, by_below}
-use Rattle.mat_laws.specs.Matroids.{IsMatroid}
-use Rattle.mat_laws.specs.TightPaths.{Exchanges, exchanges_at, is_heaviest_addable}
-use Rattle.mat_laws.specs.Slacks.{IsSlack}
+use Rattle.mat_exchange.proofs.Common.{◌≡◌, ℕ, suc, zero, ◌<◌, Bool, true, false, List, length, ◌⊎◌, inl, inr, refl, sym, ap, ◌∙◌, subst, arith, cases_Bool, cases_eq, ltb-true, both_ways, false_from_ne_true, ints, is_member, IsSet, with_one, without_one, all_below, below_member, IsRising-all_below}
+use Rattle.mat_exchange.proofs.Common.{IsSubset-all_below, is_member-all_below, ◌⊖◌, ◌≼◌, Weight, pairs, by_below, IsMatroid, Exchanges, exchanges_at, is_heaviest_addable, IsSlack, addable_from, exchangeable_from, heaviest_addable_from}
 use Rattle.mat_laws.specs.Slacks.IsSlack.{first_addition, first_exchange, second_exchange, second_addition}
 use Rattle.mat_laws.specs.Ladders.{IsCut}
 use Rattle.mat_laws.proofs.Cuts.{cut_of_stuck}
-use Rattle.mat_laws.proofs.TightArcs.{addable_from, exchangeable_from, heaviest_addable_from}
 
 -- ---- a heaviest addable element
 

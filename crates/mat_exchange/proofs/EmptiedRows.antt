@@ -1,10 +1,6 @@
 -- Rows are emptied one place after the other: those of these elements below x are empty, and all others are as they were.
-use Rattle.std.proofs.Common.{◌≡◌, ℕ, ◌+◌, ◌<◌, ◌≤◌, Bool, true, false, ◌&&◌, cond, ltb, List, [], length, set, inl, inr, refl, sym, ap, ◌∙◌, arith, get_or-set_other, get_or-set_same, length-set}
-use Rattle.std.proofs.lemmas.Bool.{cases_eq, cases_lt, cond-false, cond-true, lt-ltb, le-ltb}
-use Rattle.std.proofs.lemmas.List.{get_or_past}
-use Rattle.mat_sets.specs.Rows.{row_at}
-use Rattle.mat_sets.specs.Sets.{is_member}
-use Rattle.mat_sets.proofs.Truths.{ltb-other}
+use Rattle.mat_exchange.proofs.Common.{◌≡◌, ℕ, ◌+◌, ◌<◌, ◌≤◌, Bool, true, false, ◌&&◌, cond, ltb, List, [], length, set, inl, inr, refl, sym, ap, ◌∙◌, arith, get_or-set_other, get_or-set_same, length-set, cases_eq, cases_lt, cond-false, cond-true, lt-ltb, le-ltb, get_or_past, row_at, is_member}
+use Rattle.mat_exchange.proofs.Common.{ltb-other}
 
 pub record AreEmptiedTo (elements : List ℕ) (x : ℕ) (before after : List (List ℕ)) : Type 0 where
   pub count : length after ≡ length before

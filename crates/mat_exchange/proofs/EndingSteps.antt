@@ -1,21 +1,7 @@
 -- The growing search ends: a member of the reached set has become a sink, or no change lets an element in or makes one a sink. The change is put on
 -- the weights of the whole set, and the halves have grown; the root and the greatest weight of what can be added in the second are as before.
-use Rattle.std.proofs.Common.{◌≡◌, ℕ, ◌^◌, true, List, Option, Some, refl, sym, ◌∙◌, subst, arith}
-use Rattle.std.proofs.lemmas.Bool.{both_ways}
-use Rattle.std.proofs.lemmas.Int.{ints}
-use Rattle.mat_sets.specs.Sets.{is_member}
-use Rattle.mat_sets.specs.Weights.{zero_weight, ◌⊕◌, ◌⊖◌, ◌≼◌, weight_at, IsWeightWithin}
-use Rattle.mat_sets.specs.declared.weight.Weight.{Weight}
-use Rattle.mat_sets.proofs.WeightOrder.{pairs}
-use Rattle.mat_laws.specs.declared.exchange.Exchange.{Exchange}
-use Rattle.mat_laws.specs.TightPaths.{exchanges_in}
-use Rattle.mat_exchange.specs.Changes.{change_room, lowered, raised}
-use Rattle.mat_exchange.specs.HeaviestAddable.{IsHeaviestWeightOrNone}
-use Rattle.mat_exchange.specs.SlackParts.{IsAdditionSlack, IsLeast}
-use Rattle.mat_exchange.specs.declared.steps.NextStep.{NextStep}
-use Rattle.mat_exchange.specs.declared.steps.NextStep.TheVariants.{Sink, Nothing}
-use Rattle.mat_exchange.specs.Growing.{IsGrownSplit, IsHeaviestOf, IsNextStep, excess_of, sum_at}
-use Rattle.mat_laws.proofs.TightArcs.{heaviest_addable_gives}
+use Rattle.mat_exchange.proofs.Common.{◌≡◌, ℕ, ◌^◌, true, List, Option, Some, refl, sym, ◌∙◌, subst, arith, both_ways, ints, is_member, zero_weight, ◌⊕◌, ◌⊖◌, ◌≼◌, weight_at, IsWeightWithin, Weight, pairs, Exchange, exchanges_in, change_room, lowered, raised, IsHeaviestWeightOrNone, IsAdditionSlack}
+use Rattle.mat_exchange.proofs.Common.{IsLeast, NextStep, Sink, Nothing, IsGrownSplit, IsHeaviestOf, IsNextStep, excess_of, sum_at, heaviest_addable_gives}
 use Rattle.mat_exchange.proofs.GrowthChanges.{growing_by, enters_late, levelled_by_sink, sink_by_slack}
 use Rattle.mat_exchange.proofs.Growing.{IsGrowing, root_heaviest, grown_by_sink, grown_without_slack}
 use Rattle.mat_exchange.proofs.ChangesSoFar.{lowered_twice, raised_twice, least_sink_at, no_sink, top_stays_at}

@@ -1,19 +1,7 @@
 -- The growing search lets an element of the fringe enter. The change until then is put on its weights, so that with the change taken off all is as after
 -- the change of the set without it, and no sink came before.
-use Rattle.std.proofs.Common.{◌≡◌, ℕ, ◌^◌, ◌<◌, true, false, ◌≢◌, ◌&&◌, cond, eqb, List, length, Option, Some, refl, sym, ◌∙◌, subst, arith}
-use Rattle.std.proofs.lemmas.Bool.{both_ways, cond-false, and_parts, ne_eqb}
-use Rattle.std.proofs.lemmas.Int.{ints}
-use Rattle.mat_sets.specs.Sets.{is_member, with_one, without_one}
-use Rattle.mat_sets.specs.Weights.{zero_weight, ◌⊕◌, ◌⊖◌, ◌≺◌, ◌≼◌, weight_at, IsWeightWithin}
-use Rattle.mat_sets.specs.declared.weight.Weight.{Weight}
-use Rattle.mat_sets.proofs.WeightOrder.{pairs}
-use Rattle.mat_laws.specs.declared.exchange.Exchange.{Exchange}
-use Rattle.mat_laws.specs.TightPaths.{exchanges_in}
-use Rattle.mat_exchange.specs.Changes.{change_room, lowered, raised}
-use Rattle.mat_exchange.specs.HeaviestAddable.{IsHeaviestWeightOrNone, greater_of}
-use Rattle.mat_exchange.specs.declared.steps.NextStep.{NextStep}
-use Rattle.mat_exchange.specs.declared.steps.NextStep.TheVariants.{Enter}
-use Rattle.mat_exchange.specs.Growing.{IsEntry, IsFringe, IsOffered, IsNextStep, leads, entry_gain, excess_of, sum_at}
+use Rattle.mat_exchange.proofs.Common.{◌≡◌, ℕ, ◌^◌, ◌<◌, true, false, ◌≢◌, ◌&&◌, cond, eqb, List, length, Option, Some, refl, sym, ◌∙◌, subst, arith, both_ways, cond-false, and_parts, ne_eqb, ints, is_member, with_one, without_one, zero_weight, ◌⊕◌, ◌⊖◌, ◌≺◌, ◌≼◌, weight_at, IsWeightWithin, Weight}
+use Rattle.mat_exchange.proofs.Common.{pairs, Exchange, exchanges_in, change_room, lowered, raised, IsHeaviestWeightOrNone, greater_of, NextStep, Enter, IsEntry, IsFringe, IsOffered, IsNextStep, leads, entry_gain, excess_of, sum_at}
 use Rattle.mat_exchange.proofs.Growing.{IsGrowing, others_outside}
 use Rattle.mat_exchange.proofs.GrowthChanges.{growing_by, enters_late, fringe_changed, entry_not_above, levelled_by_entry}
 use Rattle.mat_exchange.proofs.GrowthEntries.{growing_more, fringe_entered, fringe_without}

@@ -1,18 +1,8 @@
 -- The tops of the buckets of a fringe: an offer raises one of them, one is sought again when a member leaves, and the heaviest of them is a heaviest
 -- member.
-use Rattle.std.proofs.Common.{◌≡◌, ◌≢◌, ℕ, ◌+◌, ◌*◌, ◌/◌, ◌<◌, ◌≤◌, Bool, true, false, not, ◌&&◌, cond, eqb, List, [], length, set, replicate}
-use Rattle.std.proofs.Common.{Option, Some, None, IfSome, inl, inr, refl, sym, ap, ◌∙◌, subst, arith}
-use Rattle.std.proofs.lemmas.Bool.{cases_Bool, cases_eq, cases_lt, both_ways, and_parts, and_right, eq-eqb, ne_eqb, false_from_ne_true}
-use Rattle.std.proofs.lemmas.List.{get_or-set_same, get_or-set_other, get_or-replicate, get_or_past, length-replicate, length-set}
-use Rattle.mat_sets.specs.Sets.{is_member, without_one}
-use Rattle.mat_sets.proofs.Members.{is_member-without_one}
-use Rattle.mat_sets.proofs.Truths.{and_all}
-use Rattle.mat_sets.specs.Weights.{◌≼◌, is_below, weight_at}
-use Rattle.mat_sets.specs.declared.weight.Weight.{Weight}
-use Rattle.mat_sets.proofs.WeightOrder.{at_most_same, at_most_trans, below_at_most, not_below_gives}
-use Rattle.mat_exchange.specs.Growing.{IsHeaviestOf, IsHeaviestOrNone, IsMet, IsOffered, heavier_of}
-use Rattle.mat_exchange.specs.HeaviestMembers.{IsHeaviestToOrNone, in_bucket}
-use Rattle.mat_exchange.specs.Tops.{AreTops, top_at}
+use Rattle.mat_exchange.proofs.Common.{◌≡◌, ◌≢◌, ℕ, ◌+◌, ◌*◌, ◌/◌, ◌<◌, ◌≤◌, Bool, true, false, not, ◌&&◌, cond, eqb, List, [], length, set, replicate, Option, Some, None, IfSome, inl, inr, refl, sym, ap, ◌∙◌, subst, arith, cases_Bool, cases_eq, cases_lt, both_ways, and_parts, and_right, eq-eqb}
+use Rattle.mat_exchange.proofs.Common.{ne_eqb, false_from_ne_true, get_or-set_same, get_or-set_other, get_or-replicate, get_or_past, length-replicate, length-set, is_member, without_one, is_member-without_one, and_all, ◌≼◌, is_below, weight_at, Weight, at_most_same, at_most_trans, below_at_most}
+use Rattle.mat_exchange.proofs.Common.{not_below_gives, IsHeaviestOf, IsHeaviestOrNone, IsMet, IsOffered, heavier_of, IsHeaviestToOrNone, in_bucket, AreTops, top_at}
 use Rattle.mat_exchange.proofs.HeaviestMembers.{bucket_parts, bucket_from, heaviest_below, heaviest_to_all}
 use mathlib.Core.Path.{fun_ext}
 

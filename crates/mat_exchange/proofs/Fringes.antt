@@ -1,15 +1,6 @@
 -- The fringe of a reached set: what offers do to the greatest entries of the elements outside it.
-use Rattle.std.proofs.Common.{◌≡◌, ◌≢◌, ℕ, ◌+◌, ◌<◌, Bool, true, false, not, ◌&&◌, ◌||◌, eqb, ltb, List, length, set, ◌⊎◌, inl, inr, refl, sym, ap, ◌∙◌, subst, arith}
-use Rattle.std.proofs.lemmas.Bool.{cases_Bool, cases_eq, cases_lt, both_ways, and_parts, and_from, and_right, eqb-true, eq-eqb, ne_eqb, lt-ltb, ltb-true}
-use Rattle.std.proofs.lemmas.Int.{ints}
-use Rattle.std.proofs.lemmas.List.{get_or-set_same, get_or-set_other}
-use Rattle.mat_sets.specs.Sets.{is_member, with_one}
-use Rattle.mat_sets.proofs.Members.{is_member-with_one}
-use Rattle.mat_sets.specs.Search.{IsFirstFrom}
-use Rattle.mat_sets.specs.Weights.{zero_weight, ◌≼◌, weight_at}
-use Rattle.mat_sets.specs.declared.weight.Weight.{Weight}
-use Rattle.mat_sets.proofs.WeightOrder.{pairs, at_most_trans}
-use Rattle.mat_exchange.specs.Growing.{IsFringe, IsMet, IsOffered}
+use Rattle.mat_exchange.proofs.Common.{◌≡◌, ◌≢◌, ℕ, ◌+◌, ◌<◌, Bool, true, false, not, ◌&&◌, ◌||◌, eqb, ltb, List, length, set, ◌⊎◌, inl, inr, refl, sym, ap, ◌∙◌, subst, arith, cases_Bool, cases_eq, cases_lt, both_ways, and_parts, and_from, and_right, eqb-true, eq-eqb, ne_eqb, lt-ltb, ltb-true, ints}
+use Rattle.mat_exchange.proofs.Common.{get_or-set_same, get_or-set_other, is_member, with_one, is_member-with_one, IsFirstFrom, zero_weight, ◌≼◌, weight_at, Weight, pairs, at_most_trans, IsFringe, IsMet, IsOffered}
 
 -- ---- offers
 

@@ -1,27 +1,11 @@
 -- What is kept while a reached set grows from its root. Each member is reached by tight arcs inside the set; the second weights of its members
 -- differ little from that of the root in both numbers, and what is outside has its second weight from the start. Once a member is a sink, or
 -- nothing outside can enter and no member can be added, the halves of the weights have grown.
-use Rattle.std.proofs.Common.{◌≡◌, ℕ, ◌+◌, ◌*◌, ◌^◌, ◌<◌, Bool, true, false, ◌&&◌, not, eqb, ltb, List, [], length, ℤ, pos, ◌+ℤ◌, ◌≤ℤ◌, inl, inr}
-use Rattle.std.proofs.Common.{refl, sym, ap, ◌∙◌, subst, arith}
-use Rattle.std.proofs.lemmas.Bool.{cases_Bool, both_ways, and_parts, and_from, not-true, lt-ltb, ltb-true, false≢true}
-use Rattle.std.proofs.lemmas.Int.{ints}
-use Rattle.mat_sets.specs.Sets.{is_member, IsSet, with_one}
-use Rattle.mat_sets.specs.Walks.{IsReachedSet}
-use Rattle.mat_sets.proofs.Members.{IsRising-nil, is_member-with_one}
-use Rattle.mat_sets.proofs.Cardinalities.{length-with_one}
-use Rattle.mat_sets.proofs.Ground.{below_member, IsSet-with_one, IsSet-nil}
-use Rattle.mat_sets.proofs.Reach.{reached_by_induction}
-use Rattle.mat_sets.specs.Weights.{◌⊕◌, ◌⊖◌, IsWeightWithin}
-use Rattle.mat_sets.specs.declared.weight.Weight.{Weight}
-use Rattle.mat_sets.proofs.WeightOrder.{pairs}
-use Rattle.mat_sets.proofs.Truths.{or_none}
-use Rattle.mat_laws.specs.TightPaths.{Exchanges, is_heaviest_addable, is_tight, IsStuckReach}
-use Rattle.mat_laws.specs.Slacks.{IsSlack}
+use Rattle.mat_exchange.proofs.Common.{◌≡◌, ℕ, ◌+◌, ◌*◌, ◌^◌, ◌<◌, Bool, true, false, ◌&&◌, not, eqb, ltb, List, [], length, ℤ, pos, ◌+ℤ◌, ◌≤ℤ◌, inl, inr, refl, sym, ap, ◌∙◌, subst, arith, cases_Bool, both_ways, and_parts, and_from, not-true, lt-ltb, ltb-true, false≢true, ints, is_member, IsSet}
+use Rattle.mat_exchange.proofs.Common.{with_one, IsReachedSet, IsRising-nil, is_member-with_one, length-with_one, below_member, IsSet-with_one, IsSet-nil, reached_by_induction, ◌⊕◌, ◌⊖◌, IsWeightWithin, Weight, pairs, or_none, Exchanges, is_heaviest_addable, is_tight, IsStuckReach, IsSlack}
+use Rattle.mat_exchange.proofs.Common.{NoExchangeGains, EndsSearch, IsGrownSplit, IsEntry, IsHeaviestOf, sum_at, IsAdditionSlack, IsHeaviestAddable, heaviest_addable_gives, heaviest_addable_from}
 use Rattle.mat_laws.specs.Slacks.IsSlack.{first_addition, first_exchange, second_exchange, second_addition}
-use Rattle.mat_exchange.specs.Growing.{NoExchangeGains, EndsSearch, IsGrownSplit, IsEntry, IsHeaviestOf, sum_at}
 use Rattle.mat_exchange.specs.Growing.IsEntry.{as_source, from_member, from_other}
-use Rattle.mat_exchange.specs.SlackParts.{IsAdditionSlack}
-use Rattle.mat_laws.proofs.TightArcs.{IsHeaviestAddable, heaviest_addable_gives, heaviest_addable_from}
 use Rattle.mat_exchange.proofs.WeightChanges.{tight_cases}
 use Rattle.mat_exchange.proofs.NewMembers.{new_member, new_or_kept}
 

@@ -1,19 +1,8 @@
 -- What has grown: where nothing can be added in the first matroid nothing changes, and a search after the changes has no slack.
-use Rattle.std.proofs.Common.{◌≡◌, ℕ, ◌+◌, ◌*◌, ◌^◌, ◌<◌, ◌≤◌, true, false, List, length, Some, None, refl, sym, ◌∙◌, subst, arith}
+use Rattle.mat_exchange.proofs.Common.{◌≡◌, ℕ, ◌+◌, ◌*◌, ◌^◌, ◌<◌, ◌≤◌, true, false, List, length, Some, None, refl, sym, ◌∙◌, subst, arith, most_elements, largest_weight, largest_number, split_room, is_member, ◌⊕◌, weight_at, IsWeightWithin, AreWeightsWithin, Weight, weight_within_at, Exchange}
+use Rattle.mat_exchange.proofs.Common.{Exchanges, exchanges_in, is_heaviest_addable, heaviest_addable_from, Found, Path, Stuck, IsFound, NoExchangeGains, EndsSearch, IsGrownSplit, IsGrown, IsHeaviestOf, HasNoSlack, StaysHeaviest, sum_at}
 use Rattle.std.proofs.lemmas.Nat.{mul-le}
-use Rattle.mat_sets.specs.Limits.{most_elements, largest_weight, largest_number, split_room}
-use Rattle.mat_sets.specs.Sets.{is_member}
-use Rattle.mat_sets.specs.Weights.{◌⊕◌, weight_at, IsWeightWithin, AreWeightsWithin}
-use Rattle.mat_sets.specs.declared.weight.Weight.{Weight}
-use Rattle.mat_sets.proofs.WeightOrder.{weight_within_at}
-use Rattle.mat_laws.specs.declared.exchange.Exchange.{Exchange}
-use Rattle.mat_laws.specs.TightPaths.{Exchanges, exchanges_in, is_heaviest_addable}
-use Rattle.mat_laws.proofs.TightArcs.{heaviest_addable_from}
-use Rattle.mat_exchange.specs.declared.found.Found.{Found}
-use Rattle.mat_exchange.specs.declared.found.Found.TheVariants.{Path, Stuck}
 use Rattle.mat_exchange.specs.declared.grown.Grown.{Grown}
-use Rattle.mat_exchange.specs.Searching.{IsFound}
-use Rattle.mat_exchange.specs.Growing.{NoExchangeGains, EndsSearch, IsGrownSplit, IsGrown, IsHeaviestOf, HasNoSlack, StaysHeaviest, sum_at}
 use Rattle.mat_exchange.proofs.HeaviestExchanges.{heaviest_in_rows}
 use Rattle.mat_exchange.proofs.Growing.{ends_at_sink, ends_without_source, grown_unchanged}
 use Rattle.mat_exchange.proofs.WeightBounds.{IsWeightWithin-weaken, AreWeightsWithin-from, first_within, second_within}

@@ -1,25 +1,10 @@
 -- Every split can grow until a search has no slack: by the least slack of the reached set, which lets one element more in, or makes one of its
 -- elements a sink.
-use Rattle.std.proofs.Common.{◌≡◌, ℕ, suc, zero, ◌+◌, ◌<◌, true, false, List, length, ◌⊎◌, inl, inr, refl, subst, arith}
-use Rattle.std.proofs.lemmas.Bool.{cases_Bool, both_ways, false_from_ne_true}
-use Rattle.std.proofs.lemmas.Int.{ints}
-use Rattle.mat_sets.specs.Limits.{largest_weight}
-use Rattle.mat_sets.specs.Sets.{is_member, with_one, without_one, all_below}
-use Rattle.mat_sets.specs.Search.{some_below}
-use Rattle.mat_sets.specs.Weights.{zero_weight, ◌⊕◌, ◌⊖◌, IsWeightWithin}
-use Rattle.mat_sets.specs.declared.weight.Weight.{Weight}
-use Rattle.mat_sets.proofs.Cardinalities.{length-with_one}
-use Rattle.mat_sets.proofs.Ground.{below_member, IsSet-length}
+use Rattle.mat_exchange.proofs.Common.{◌≡◌, ℕ, suc, zero, ◌+◌, ◌<◌, true, false, List, length, ◌⊎◌, inl, inr, refl, subst, arith, cases_Bool, both_ways, false_from_ne_true, ints, largest_weight, is_member, with_one, without_one, all_below, some_below, zero_weight, ◌⊕◌, ◌⊖◌, IsWeightWithin, Weight}
+use Rattle.mat_exchange.proofs.Common.{length-with_one, below_member, IsSet-length, pairs, Exchanges, is_heaviest_addable, IsSlack, IsLeastSlack, lowered, raised, NoExchangeGains, IsGrownSplit, IsEntry, sum_at, IsAdditionSlack, IsLeast, heaviest_addable_gives, heaviest_addable_from}
 use Rattle.mat_sets.proofs.Search.{some_below_gives, some_below_none}
-use Rattle.mat_sets.proofs.WeightOrder.{pairs}
-use Rattle.mat_laws.specs.TightPaths.{Exchanges, is_heaviest_addable}
-use Rattle.mat_laws.specs.Slacks.{IsSlack, IsLeastSlack}
 use Rattle.mat_laws.specs.Slacks.IsSlack.{first_addition, first_exchange, second_exchange, second_addition}
-use Rattle.mat_exchange.specs.Changes.{lowered, raised}
-use Rattle.mat_exchange.specs.Growing.{NoExchangeGains, IsGrownSplit, IsEntry, sum_at}
 use Rattle.mat_exchange.specs.Growing.IsEntry.{as_source, from_member, from_other}
-use Rattle.mat_exchange.specs.SlackParts.{IsAdditionSlack, IsLeast}
-use Rattle.mat_laws.proofs.TightArcs.{heaviest_addable_gives, heaviest_addable_from}
 use Rattle.mat_exchange.proofs.CutsWithoutSlack.{some_heaviest_addable}
 use Rattle.mat_exchange.proofs.LeastSlacks.{least_slack_or_none}
 use Rattle.mat_exchange.proofs.Growing.{AreExchangesOn, IsGrowing, root_below, in_others, others_below, others_outside, growing_start}

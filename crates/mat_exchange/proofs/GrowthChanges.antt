@@ -1,22 +1,10 @@
 -- A change of the weights of a reached set: the first fall by d, and the second rise. Where nothing outside enters before, and some member gets level
 -- with an element outside, all that is kept of the set is kept, since the second weights of its members are near one another; and the gains of
 -- what is outside rise by d.
-use Rattle.std.proofs.Common.{◌≡◌, ℕ, ◌+◌, ◌*◌, ◌^◌, ◌<◌, ◌≤◌, true, false, List, length, inl, inr, refl, sym, ◌∙◌, arith}
-use Rattle.std.proofs.lemmas.Bool.{cases_Bool}
-use Rattle.std.proofs.lemmas.Int.{ints}
-use Rattle.mat_sets.specs.Limits.{largest_weight}
+use Rattle.mat_exchange.proofs.Common.{◌≡◌, ℕ, ◌+◌, ◌*◌, ◌^◌, ◌<◌, ◌≤◌, true, false, List, length, inl, inr, refl, sym, ◌∙◌, arith, cases_Bool, ints, largest_weight, is_member, below_member, IsSet-length, zero_weight, ◌⊕◌, ◌⊖◌, ◌≺◌, ◌≼◌, IsWeightWithin, Weight, pairs, by_below, Exchanges}
+use Rattle.mat_exchange.proofs.Common.{is_heaviest_addable, is_tight, lowered, raised, NoExchangeGains, IsEntry, IsFringe, IsAdditionSlack, IsLeast, IsHeaviestAddable, heaviest_addable_gives, heaviest_addable_from}
 use mathlib.Core.Path.{fun_ext}
-use Rattle.mat_sets.specs.Sets.{is_member}
-use Rattle.mat_sets.proofs.Ground.{below_member, IsSet-length}
-use Rattle.mat_sets.specs.Weights.{zero_weight, ◌⊕◌, ◌⊖◌, ◌≺◌, ◌≼◌, IsWeightWithin}
-use Rattle.mat_sets.specs.declared.weight.Weight.{Weight}
-use Rattle.mat_sets.proofs.WeightOrder.{pairs, by_below}
-use Rattle.mat_laws.specs.TightPaths.{Exchanges, is_heaviest_addable, is_tight}
-use Rattle.mat_exchange.specs.Changes.{lowered, raised}
-use Rattle.mat_exchange.specs.Growing.{NoExchangeGains, IsEntry, IsFringe}
 use Rattle.mat_exchange.specs.Growing.IsEntry.{as_source, from_member, from_other}
-use Rattle.mat_exchange.specs.SlackParts.{IsAdditionSlack, IsLeast}
-use Rattle.mat_laws.proofs.TightArcs.{IsHeaviestAddable, heaviest_addable_gives, heaviest_addable_from}
 use Rattle.mat_exchange.proofs.WeightChanges.{lowered-member, lowered-outside, raised-member, raised-outside, lowered-keeps, raised-keeps}
 use Rattle.mat_exchange.proofs.WeightChanges.{changed_adds, tight_stays}
 use Rattle.mat_exchange.proofs.Raising.{lowered_zero, raised_zero}

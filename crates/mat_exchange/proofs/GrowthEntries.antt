@@ -1,23 +1,10 @@
 -- An element enters a reached set. It is a source, or a tight arc leads to it from a member, so that its second weight is close to that of a member;
 -- and what is still outside can enter by it too.
-use Rattle.std.proofs.Common.{◌≡◌, ℕ, suc, ◌*◌, ◌^◌, ◌<◌, Bool, true, false, ◌&&◌, not, eqb, ltb, List, [], length, ◌⊎◌, inl, inr, refl, sym, ap, ◌∙◌}
-use Rattle.std.proofs.Common.{subst, arith}
-use Rattle.std.proofs.lemmas.Bool.{cases_Bool, both_ways, and_parts, and_from, cond-true, cond-false, false≢true}
-use Rattle.std.proofs.lemmas.Int.{ints}
-use Rattle.mat_sets.specs.Limits.{largest_weight}
-use Rattle.mat_sets.specs.Sets.{is_member, with_one, without_one}
-use Rattle.mat_sets.proofs.Members.{is_member-with_one, is_member-without_one}
-use Rattle.mat_sets.proofs.Cardinalities.{length-with_one}
-use Rattle.mat_sets.proofs.Ground.{below_member, IsSet-with_one}
-use Rattle.mat_sets.specs.Weights.{zero_weight, ◌⊕◌, ◌⊖◌, ◌≼◌, IsWeightWithin}
-use Rattle.mat_sets.specs.declared.weight.Weight.{Weight}
-use Rattle.mat_sets.proofs.WeightOrder.{pairs, at_most_same}
-use Rattle.mat_laws.specs.TightPaths.{Exchanges, is_heaviest_addable, is_tight}
-use Rattle.mat_exchange.specs.Growing.{IsEntry, IsFringe, IsOffered, leads, entry_gain}
+use Rattle.mat_exchange.proofs.Common.{◌≡◌, ℕ, suc, ◌*◌, ◌^◌, ◌<◌, Bool, true, false, ◌&&◌, not, eqb, ltb, List, [], length, ◌⊎◌, inl, inr, refl, sym, ap, ◌∙◌, subst, arith, cases_Bool, both_ways, and_parts, and_from, cond-true, cond-false, false≢true, ints, largest_weight, is_member, with_one}
+use Rattle.mat_exchange.proofs.Common.{without_one, is_member-with_one, is_member-without_one, length-with_one, below_member, IsSet-with_one, zero_weight, ◌⊕◌, ◌⊖◌, ◌≼◌, IsWeightWithin, Weight, pairs, at_most_same, Exchanges, is_heaviest_addable, is_tight, IsEntry, IsFringe, IsOffered, leads}
+use Rattle.mat_exchange.proofs.Common.{entry_gain, heaviest_addable_from, and_neither, or_commute}
 use Rattle.mat_exchange.specs.Growing.IsEntry.{as_source, from_member, from_other}
-use Rattle.mat_laws.proofs.TightArcs.{heaviest_addable_from}
 use Rattle.mat_exchange.proofs.Fringes.{fringe_offered}
-use Rattle.mat_sets.proofs.Truths.{and_neither, or_commute}
 use Rattle.mat_exchange.proofs.WeightChanges.{tight_by_first, tight_by_second}
 use Rattle.mat_exchange.proofs.NewMembers.{kept_member, new_member, new_or_kept}
 use Rattle.mat_exchange.proofs.Growing.{AreExchangesOn, IsNear, IsGrowing, others_below, others_outside}

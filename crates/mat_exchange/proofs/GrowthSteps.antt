@@ -1,25 +1,9 @@
 -- What the growing search keeps, over lists of weights and of gains. The weights of the reached set change by one number that is put on them only
 -- at the end. All numbers are far within an `i128`: the weights are within 10^27, and what is kept of them is within 10^29.
-use Rattle.std.proofs.Common.{◌≡◌, ℕ, suc, ◌^◌, ◌<◌, ◌≤◌, true, false, ◌&&◌, not, cond, eqb, ltb, List, [], length, Option, None, Some, IfSome, inl}
-use Rattle.std.proofs.Common.{inr, refl, sym, ap, ◌∙◌, subst, arith}
-use Rattle.std.proofs.lemmas.Bool.{cases_Bool, cases_lt, both_ways, and_parts, and_right, ltb-true}
-use Rattle.std.proofs.lemmas.Int.{ints}
-use Rattle.std.proofs.lemmas.List.{get_or_past}
-use Rattle.mat_sets.specs.Limits.{most_elements, largest_weight, largest_number, split_room}
-use Rattle.mat_sets.specs.Sets.{is_member, with_one, without_one, all_below}
-use Rattle.mat_sets.proofs.Members.{is_member-without_one}
-use Rattle.mat_sets.proofs.Ground.{below_member, IsSet-length, is_member-all_below}
-use Rattle.mat_sets.specs.Weights.{zero_weight, ◌⊕◌, ◌⊖◌, ◌≼◌, weight_at, IsWeightWithin, AreWeightsWithin}
-use Rattle.mat_sets.specs.declared.weight.Weight.{Weight}
-use Rattle.mat_sets.proofs.WeightOrder.{pairs, at_most_same, weight_within_at}
-use Rattle.mat_laws.specs.declared.exchange.Exchange.{Exchange}
-use Rattle.mat_laws.specs.TightPaths.{exchanges_in}
-use Rattle.mat_exchange.specs.Changes.{change_room, lowered, raised}
-use Rattle.mat_exchange.specs.Tables.{IsTableAt}
-use Rattle.mat_exchange.specs.HeaviestAddable.{IsHeaviestWeightOrNone, greater_of}
-use Rattle.mat_exchange.specs.Growing.{NoExchangeGains, IsEntry, IsFringe, IsOffered, IsHeaviestOf, leads, entry_gain, sum_at}
+use Rattle.mat_exchange.proofs.Common.{◌≡◌, ℕ, suc, ◌^◌, ◌<◌, ◌≤◌, true, false, ◌&&◌, not, cond, eqb, ltb, List, [], length, Option, None, Some, IfSome, inl, inr, refl, sym, ap, ◌∙◌, subst, arith, cases_Bool, cases_lt, both_ways, and_parts, and_right, ltb-true, ints, get_or_past, most_elements}
+use Rattle.mat_exchange.proofs.Common.{largest_weight, largest_number, split_room, is_member, with_one, without_one, all_below, is_member-without_one, below_member, IsSet-length, is_member-all_below, zero_weight, ◌⊕◌, ◌⊖◌, ◌≼◌, weight_at, IsWeightWithin, AreWeightsWithin, Weight, pairs}
+use Rattle.mat_exchange.proofs.Common.{at_most_same, weight_within_at, Exchange, exchanges_in, change_room, lowered, raised, IsTableAt, IsHeaviestWeightOrNone, greater_of, NoExchangeGains, IsEntry, IsFringe, IsOffered, IsHeaviestOf, leads, entry_gain, sum_at, IsHeaviestAddable, length-with_one}
 use Rattle.mat_exchange.specs.Growing.IsEntry.{as_source, from_member, from_other}
-use Rattle.mat_laws.proofs.TightArcs.{IsHeaviestAddable}
 use Rattle.mat_exchange.proofs.HeaviestAddable.{addable_below}
 use Rattle.mat_exchange.proofs.Growing.{AreExchangesOn, IsGrowing, growing_start, others_below, root_below}
 use Rattle.mat_exchange.proofs.GrowthChanges.{entry_not_above}
@@ -30,7 +14,6 @@ use Rattle.mat_exchange.proofs.WeightChanges.{lowered-member, lowered-outside, r
 use Rattle.mat_exchange.proofs.ChangesSoFar.{entered_heaviest, stored_first, stored_second}
 use Rattle.mat_exchange.proofs.WeightBounds.{IsWeightWithin-weaken, AreWeightsWithin-from, difference_within, first_within as first_bound}
 use Rattle.mat_exchange.proofs.WeightBounds.{second_within as second_bound}
-use Rattle.mat_sets.proofs.Cardinalities.{length-with_one}
 use mathlib.Core.Path.{fun_ext}
 
 -- ---- tables

@@ -1,16 +1,7 @@
 -- The greatest weight of the elements that can be added tells which of them are heaviest.
-use Rattle.std.proofs.Common.{◌≡◌, ℕ, ◌<◌, Bool, true, false, ◌&&◌, List, [], length, inl, inr, refl, sym, ap, subst}
+use Rattle.mat_exchange.proofs.Common.{◌≡◌, ℕ, ◌<◌, Bool, true, false, ◌&&◌, List, [], length, inl, inr, refl, sym, ap, subst, and_from, and_parts, cases_lt, both_ways, get_or_past, ◌≼◌, is_same, Weight, same_gives, same_from, at_most_both, at_most_same, at_most_trans, Exchange, Exchanges}
+use Rattle.mat_exchange.proofs.Common.{exchanges_in, is_heaviest_addable, heaviest_addable_gives, heaviest_addable_from, IsHeaviestOf, IsHeaviestWeight}
 use Rattle.std.specs.Cmp.{both_ways as both_tests}
-use Rattle.std.proofs.lemmas.Bool.{and_from, and_parts, cases_lt, both_ways}
-use Rattle.std.proofs.lemmas.List.{get_or_past}
-use Rattle.mat_sets.specs.Weights.{◌≼◌, is_same}
-use Rattle.mat_sets.specs.declared.weight.Weight.{Weight}
-use Rattle.mat_sets.proofs.WeightOrder.{same_gives, same_from, at_most_both, at_most_same, at_most_trans}
-use Rattle.mat_laws.specs.declared.exchange.Exchange.{Exchange}
-use Rattle.mat_laws.specs.TightPaths.{Exchanges, exchanges_in, is_heaviest_addable}
-use Rattle.mat_laws.proofs.TightArcs.{heaviest_addable_gives, heaviest_addable_from}
-use Rattle.mat_exchange.specs.Growing.{IsHeaviestOf}
-use Rattle.mat_exchange.specs.HeaviestAddable.{IsHeaviestWeight}
 
 -- only elements that have a row can be added
 pub addable_below : (rows : List Exchange) (x : ℕ) → (exchanges_in rows).adds x ≡ true → x < length rows

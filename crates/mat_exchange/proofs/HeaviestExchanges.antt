@@ -1,14 +1,7 @@
 -- A set is heaviest of its size where and only where no exchange makes it heavier.
-use Rattle.std.proofs.Common.{◌≡◌, ℕ, Bool, true, List}
-use Rattle.mat_sets.specs.declared.weight.Weight.{Weight}
-use Rattle.mat_laws.specs.Matroids.{IsMatroid}
-use Rattle.mat_laws.specs.Exchanges.{rows_of}
-use Rattle.mat_laws.specs.Heaviest.{IsHeaviest}
-use Rattle.mat_laws.specs.TightPaths.{exchanges_at, exchanges_in}
+use Rattle.mat_exchange.proofs.Common.{◌≡◌, ℕ, Bool, true, List, Weight, IsMatroid, rows_of, IsHeaviest, exchanges_at, exchanges_in, NoExchangeGains, exchangeable_gives, exchangeable_from}
 use Rattle.mat_laws.proofs.LocallyHeaviest.{heaviest_from_exchanges, exchange_gains_nothing}
-use Rattle.mat_exchange.specs.Growing.{NoExchangeGains}
 use Rattle.mat_exchange.proofs.RowExchanges.{rows_tell_exchanges}
-use Rattle.mat_laws.proofs.TightArcs.{exchangeable_gives, exchangeable_from}
 
 module _ {n : ℕ} {p : List ℕ → Bool} (laws : IsMatroid n p) (w : ℕ → Weight) (I : List ℕ) where
   pub gains_at_heaviest : IsHeaviest p w I → NoExchangeGains (exchanges_at p I) w

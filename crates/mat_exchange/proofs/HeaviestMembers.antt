@@ -1,18 +1,7 @@
 -- A heaviest element of those that pass, found by going through them in rising order.
-use Rattle.std.proofs.Common.{◌≡◌, ℕ, ◌<◌, ◌≤◌, ◌+◌, ◌*◌, ◌/◌, Bool, true, false, ◌&&◌, cond, eqb, List, length, Option, Some, None, IfSome, ◌⊎◌}
-use Rattle.std.proofs.Common.{inl, inr, sym, ap, ◌∙◌, subst, arith}
-use Rattle.std.proofs.lemmas.Bool.{cases_Bool, cases_lt, cases_eq, both_ways, and_parts, and_from, and_right, eqb-true, eq-eqb, ne_eqb, false_from_ne_true}
-use Rattle.std.proofs.lemmas.Int.{ints}
-use Rattle.mat_sets.specs.Bits.{bits_of}
-use Rattle.mat_sets.specs.Search.{IsFirstFrom}
-use Rattle.mat_sets.specs.Sets.{is_member}
-use Rattle.mat_sets.specs.Weights.{zero_weight, negated, ◌⊕◌, ◌≼◌, is_below}
-use Rattle.mat_sets.specs.declared.weight.Weight.{Weight}
-use Rattle.mat_sets.proofs.Bits.{none_past}
-use Rattle.mat_sets.proofs.Truths.{and_all}
-use Rattle.mat_sets.proofs.WeightOrder.{pairs, at_most_same, at_most_trans, below_at_most, not_below_gives}
-use Rattle.mat_exchange.specs.Growing.{heavier_of, IsHeaviestOrNone}
-use Rattle.mat_exchange.specs.HeaviestMembers.{IsHeaviestTo, IsHeaviestToOrNone, heavier_of_two, in_bucket}
+use Rattle.mat_exchange.proofs.Common.{◌≡◌, ℕ, ◌<◌, ◌≤◌, ◌+◌, ◌*◌, ◌/◌, Bool, true, false, ◌&&◌, cond, eqb, List, length, Option, Some, None, IfSome, ◌⊎◌, inl, inr, sym, ap, ◌∙◌, subst, arith, cases_Bool, cases_lt, cases_eq, both_ways, and_parts, and_from, and_right, eqb-true, eq-eqb, ne_eqb}
+use Rattle.mat_exchange.proofs.Common.{false_from_ne_true, ints, bits_of, IsFirstFrom, is_member, zero_weight, negated, ◌⊕◌, ◌≼◌, is_below, Weight, none_past, and_all, pairs, at_most_same, at_most_trans, below_at_most, not_below_gives, heavier_of, IsHeaviestOrNone, IsHeaviestTo, IsHeaviestToOrNone}
+use Rattle.mat_exchange.proofs.Common.{heavier_of_two, in_bucket}
 
 -- each that passes before v + 1 passes before `from` or is v
 pub passes_next : (test : ℕ → Bool) (from v x : ℕ) → IsFirstFrom test from v → x < v + 1 → test x ≡ true → (x < from) ⊎ (x ≡ v)

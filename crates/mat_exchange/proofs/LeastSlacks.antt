@@ -1,14 +1,7 @@
 -- A set has a least slack, or none. What a test lets through of finitely many pairs has a least value or is empty, by going
 -- through the pairs one by one, and the slacks of each of the four kinds are such values.
-use Rattle.std.proofs.Common.{◌≡◌, ℕ, suc, zero, ◌<◌, Bool, true, not, ◌&&◌, List, ◌⊎◌, inl, inr, refl, sym, ap, subst, arith}
-use Rattle.std.proofs.lemmas.Bool.{cases_Bool, cases_eq, and_parts, and_from, not-true, both_ways}
-use Rattle.std.proofs.lemmas.Int.{ints}
-use Rattle.mat_sets.specs.Sets.{is_member}
-use Rattle.mat_sets.specs.Weights.{◌⊖◌, ◌≼◌}
-use Rattle.mat_sets.specs.declared.weight.Weight.{Weight}
-use Rattle.mat_sets.proofs.WeightOrder.{pairs, by_below, at_most_same, at_most_trans}
-use Rattle.mat_laws.specs.TightPaths.{Exchanges, is_heaviest_addable}
-use Rattle.mat_laws.specs.Slacks.{IsSlack, IsLeastSlack}
+use Rattle.mat_exchange.proofs.Common.{◌≡◌, ℕ, suc, zero, ◌<◌, Bool, true, not, ◌&&◌, List, ◌⊎◌, inl, inr, refl, sym, ap, subst, arith, cases_Bool, cases_eq, and_parts, and_from, not-true, both_ways, ints, is_member, ◌⊖◌, ◌≼◌, Weight, pairs, by_below, at_most_same, at_most_trans, Exchanges}
+use Rattle.mat_exchange.proofs.Common.{is_heaviest_addable, IsSlack, IsLeastSlack}
 use Rattle.mat_laws.specs.Slacks.IsSlack.{first_addition, first_exchange, second_exchange, second_addition}
 
 -- ---- the least of finitely many

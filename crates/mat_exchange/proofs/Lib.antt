@@ -1,3 +1,4 @@
+pub mod Common
 pub mod TightPathSteps
 pub mod WeightChanges
 pub mod CutsWithoutSlack

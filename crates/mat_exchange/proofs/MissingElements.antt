@@ -1,17 +1,9 @@
 -- Which rows are missing from one independent set to the next, and that all others stay: a member of both has no exchanges at either, and an element
 -- that could not be added and could be exchanged only for members of the next set can be exchanged for the same ones there. Of the missing ones only
 -- the lost rows were written down.
-use Rattle.std.proofs.Common.{◌≡◌, ℕ, ◌<◌, Bool, true, false, ◌||◌, List, [], inl, inr, subst, sym, ap, ◌∙◌, arith}
-use Rattle.std.proofs.lemmas.Bool.{cases_Bool, cases_lt, both_ways, cond-false, cond-true, false_from_ne_true, true_from_ne_false}
-use Rattle.mat_sets.specs.Sets.{is_member, minus, with_one}
-use Rattle.mat_sets.proofs.Ground.{below_member}
-use Rattle.mat_sets.proofs.Members.{set_members}
-use Rattle.mat_laws.specs.Exchanges.{row_of, rows_of}
-use Rattle.mat_laws.specs.Matroids.{IsMatroid}
-use Rattle.mat_laws.specs.TightPaths.{exchanges_in, row_in}
+use Rattle.mat_exchange.proofs.Common.{◌≡◌, ℕ, ◌<◌, Bool, true, false, ◌||◌, List, [], inl, inr, subst, sym, ap, ◌∙◌, arith, cases_Bool, cases_lt, both_ways, cond-false, cond-true, false_from_ne_true, true_from_ne_false, is_member, minus, with_one, below_member, set_members, row_of, rows_of}
+use Rattle.mat_exchange.proofs.Common.{IsMatroid, exchanges_in, row_in, Exchange, AreLost, written}
 use Rattle.mat_laws.proofs.KeptCircuits.{row_kept}
-use Rattle.mat_laws.specs.declared.exchange.Exchange.{Exchange}
-use Rattle.mat_exchange.specs.RowTables.{AreLost, written}
 use Rattle.mat_exchange.proofs.RowExchanges.{IsTableAt-rows_of, row_in-past, row_in-rows_of}
 
 -- ---- steps about members

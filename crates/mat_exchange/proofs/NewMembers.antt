@@ -1,8 +1,5 @@
 -- The members of a set with one element more: that element, and those from before.
-use Rattle.std.proofs.Common.{◌≡◌, ◌≢◌, ℕ, true, ◌||◌, eqb, List, ◌⊎◌, inl, inr, sym, ap, ◌∙◌}
-use Rattle.std.proofs.lemmas.Bool.{or_cases, or_left, or_right, eqb-true, eq-eqb, ne_eqb}
-use Rattle.mat_sets.specs.Sets.{is_member, with_one}
-use Rattle.mat_sets.proofs.Members.{is_member-with_one}
+use Rattle.mat_exchange.proofs.Common.{◌≡◌, ◌≢◌, ℕ, true, ◌||◌, eqb, List, ◌⊎◌, inl, inr, sym, ap, ◌∙◌, or_cases, or_left, or_right, eqb-true, eq-eqb, ne_eqb, is_member, with_one, is_member-with_one}
 
 pub kept_member : (x v : ℕ) (R : List ℕ) → is_member v R ≡ true → is_member v (with_one R x) ≡ true
 kept_member x v R m = is_member-with_one v x R ∙ or_right (eqb v x) (is_member v R) m

@@ -1,10 +1,6 @@
 -- Elements are put into a set by the members of a list, one member after the other: what was in it stays. Each member that cannot be added is put
 -- itself, or the elements are put that cannot be added and can be exchanged for it.
-use Rattle.std.proofs.Common.{◌≡◌, ℕ, ◌+◌, ◌<◌, true, false, not, ◌&&◌, ◌||◌, eqb, take, List, [], length, get_or, inl, inr, refl, subst, sym, ap, ◌∙◌}
-use Rattle.std.proofs.lemmas.Bool.{both_ways, eqb-true, or_cases, or_left, or_right}
-use Rattle.mat_sets.specs.Sets.{is_member, with_one}
-use Rattle.mat_sets.proofs.Steps.{is_member-take_more}
-use Rattle.mat_laws.specs.TightPaths.{Exchanges}
+use Rattle.mat_exchange.proofs.Common.{◌≡◌, ℕ, ◌+◌, ◌<◌, true, false, not, ◌&&◌, ◌||◌, eqb, take, List, [], length, get_or, inl, inr, refl, subst, sym, ap, ◌∙◌, both_ways, eqb-true, or_cases, or_left, or_right, is_member, with_one, is_member-take_more, Exchanges}
 use Rattle.mat_exchange.proofs.NewMembers.{kept_member, new_member}
 
 -- ---- the members of a list so far

@@ -1,16 +1,7 @@
 -- Weights that rise member by member, in rising order: the next member was not met before, so its weight is still as at the start.
-use Rattle.std.proofs.Common.{◌≡◌, ◌≢◌, ℕ, ◌+◌, ◌<◌, ◌≤◌, ◌&&◌, ltb, cond, List, length, set, ◌+ℤ◌, SFits, inl, inr, sym, ap, ◌∙◌, subst, arith}
-use Rattle.std.proofs.lemmas.Bool.{cases_Bool, cases_eq, cases_lt, and_from, and_left, and_right, lt-ltb, le-ltb, cond-true, cond-false}
+use Rattle.mat_exchange.proofs.Common.{◌≡◌, ◌≢◌, ℕ, ◌+◌, ◌<◌, ◌≤◌, ◌&&◌, ltb, cond, List, length, set, ◌+ℤ◌, SFits, inl, inr, sym, ap, ◌∙◌, subst, arith, cases_Bool, cases_eq, cases_lt, and_from, and_left, and_right, lt-ltb, le-ltb, cond-true, cond-false, ints, get_or-set_same, get_or-set_other}
+use Rattle.mat_exchange.proofs.Common.{largest_number, is_member, IsFirstFrom, zero_weight, ◌⊕◌, ◌⊖◌, weight_at, IsWeightWithin, Weight, pairs, change_room, lowered, raised}
 use Rattle.std.specs.Int.{w128}
-use Rattle.std.proofs.lemmas.Int.{ints}
-use Rattle.std.proofs.lemmas.List.{get_or-set_same, get_or-set_other}
-use Rattle.mat_sets.specs.Limits.{largest_number}
-use Rattle.mat_sets.specs.Sets.{is_member}
-use Rattle.mat_sets.specs.Search.{IsFirstFrom}
-use Rattle.mat_sets.specs.Weights.{zero_weight, ◌⊕◌, ◌⊖◌, weight_at, IsWeightWithin}
-use Rattle.mat_sets.specs.declared.weight.Weight.{Weight}
-use Rattle.mat_sets.proofs.WeightOrder.{pairs}
-use Rattle.mat_exchange.specs.Changes.{change_room, lowered, raised}
 
 -- w, with d more on the members before `from`
 abbrev pub raised_to : (ℕ → Weight) → List ℕ → Weight → ℕ → ℕ → Weight

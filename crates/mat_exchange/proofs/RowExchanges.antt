@@ -1,21 +1,9 @@
 -- The rows of all elements at an independent set tell its exchanges: each row says what the exchanges of its element are, and no
 -- element past the last row can be added or exchanged, as independent sets lie below n.
-use Rattle.std.proofs.Common.{◌≡◌, ℕ, ◌<◌, ◌≤◌, Bool, true, false, not, ◌&&◌, if◌then◌else◌, None, Some, List, [], length, inl, inr, refl, sym, ap}
-use Rattle.std.proofs.Common.{◌∙◌, subst, arith}
-use Rattle.std.proofs.lemmas.Bool.{and_parts, and_right, both_ways, cases_Bool, cases_lt, cond-false, cond-true, eq-eqb, false_from_ne_true, not-true}
-use Rattle.std.proofs.lemmas.List.{get_or_past}
-use Rattle.mat_sets.specs.Sets.{is_member, AllBelow, with_one, without_one}
-use Rattle.mat_sets.proofs.Members.{set_members, is_member-filter, same_members, IsRising-with_one, IsRising-without_one}
+use Rattle.mat_exchange.proofs.Common.{◌≡◌, ℕ, ◌<◌, ◌≤◌, Bool, true, false, not, ◌&&◌, if◌then◌else◌, None, Some, List, [], length, inl, inr, refl, sym, ap, ◌∙◌, subst, arith, and_parts, and_right, both_ways, cases_Bool, cases_lt, cond-false, cond-true, eq-eqb, false_from_ne_true, not-true}
+use Rattle.mat_exchange.proofs.Common.{get_or_past, is_member, AllBelow, with_one, without_one, set_members, is_member-filter, same_members, IsRising-with_one, IsRising-without_one, AllBelow-from_members, below_member, length-map_all_below, get_or-map_all_below, and_all, Exchange, circuit_members}
+use Rattle.mat_exchange.proofs.Common.{row_of, rows_of, IsMatroid, row_of-adds, row_of-trades, Exchanges, exchanges_at, exchanges_in, row_in, AreWhole, IsFilledTable, entered_to, IsTableAt}
 use Rattle.mat_sets.proofs.Filters.{IsRising-filter}
-use Rattle.mat_sets.proofs.Ground.{AllBelow-from_members, below_member, length-map_all_below, get_or-map_all_below}
-use Rattle.mat_sets.proofs.Truths.{and_all}
-use Rattle.mat_laws.specs.declared.exchange.Exchange.{Exchange}
-use Rattle.mat_laws.specs.Exchanges.{circuit_members, row_of, rows_of}
-use Rattle.mat_laws.specs.Matroids.{IsMatroid}
-use Rattle.mat_laws.proofs.Rows.{row_of-adds, row_of-trades}
-use Rattle.mat_laws.specs.TightPaths.{Exchanges, exchanges_at, exchanges_in, row_in}
-use Rattle.mat_exchange.specs.RowTables.{AreWhole, IsFilledTable, entered_to}
-use Rattle.mat_exchange.specs.Tables.{IsTableAt}
 use mathlib.Core.Path.{fun_ext}
 
 -- ---- the rows by index

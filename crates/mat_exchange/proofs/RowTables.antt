@@ -1,13 +1,6 @@
 -- A table that is kept as sets tells the exchanges of its rows: what stands in them, and in the columns, which are their transpose.
-use Rattle.std.proofs.Common.{◌≡◌, ℕ, ◌<◌, ◌≤◌, Bool, true, false, not, ◌&&◌, ◌||◌, cond, List, [], length, inl, inr, refl, subst, sym, ap, ◌∙◌, arith}
-use Rattle.std.proofs.lemmas.Bool.{cases_Bool, cases_lt, cond-false, cond-true, false_from_ne_true}
-use Rattle.std.proofs.lemmas.List.{get_or_past, get_or-map, length-map}
-use Rattle.mat_sets.specs.Sets.{is_member, all_below}
-use Rattle.mat_sets.proofs.Ground.{get_or-all_below, length-all_below}
-use Rattle.mat_laws.specs.declared.exchange.Exchange.{Exchange}
-use Rattle.mat_laws.specs.TightPaths.{row_in, exchanges_in}
-use Rattle.mat_exchange.specs.RowTables.{AreTransposed, row_from, table_of, written}
-use Rattle.mat_sets.specs.Rows.{row_at}
+use Rattle.mat_exchange.proofs.Common.{◌≡◌, ℕ, ◌<◌, ◌≤◌, Bool, true, false, not, ◌&&◌, ◌||◌, cond, List, [], length, inl, inr, refl, subst, sym, ap, ◌∙◌, arith, cases_Bool, cases_lt, cond-false, cond-true, false_from_ne_true, get_or_past, get_or-map, length-map, is_member, all_below}
+use Rattle.mat_exchange.proofs.Common.{get_or-all_below, length-all_below, Exchange, row_in, exchanges_in, AreTransposed, row_from, table_of, written, row_at}
 
 pub length-table_of : (base addable : List ℕ) (rows : List (List ℕ)) → length (table_of base addable rows) ≡ length rows
 length-table_of base addable rows = length-map (all_below (length rows)) (row_from base addable rows) ∙ length-all_below (length rows)

@@ -1,22 +1,8 @@
 -- The least slack of each kind comes from the greatest weight of an element, and the least of several numbers from the lesser of two.
-use Rattle.std.proofs.Common.{◌≡◌, ◌∙◌, ℕ, ◌+◌, ◌<◌, true, false, not, ◌&&◌, ltb, cond, List, length}
-use Rattle.std.proofs.Common.{Option, Some, None, ◌⊎◌, inl, inr, refl, sym, ap, subst, arith}
-use Rattle.std.proofs.lemmas.Bool.{and_from, and_parts, cases_Bool, cases_eq, lt-ltb, ltb-true, not-true}
-use Rattle.std.proofs.lemmas.Int.{ints}
-use Rattle.mat_sets.specs.Sets.{all_below, is_member, minus, AllBelow}
-use Rattle.mat_sets.proofs.Ground.{AllBelow-member, is_member-all_below}
-use Rattle.mat_sets.proofs.Members.{is_member-minus}
-use Rattle.mat_sets.specs.Weights.{◌⊖◌, ◌≼◌, is_below}
-use Rattle.mat_sets.specs.declared.weight.Weight.{Weight}
-use Rattle.mat_sets.proofs.WeightOrder.{pairs, at_most_trans, below_at_most, not_below_gives}
-use Rattle.mat_laws.specs.declared.exchange.Exchange.{Exchange}
-use Rattle.mat_laws.specs.TightPaths.{Exchanges, exchanges_in}
-use Rattle.mat_laws.specs.Slacks.{IsSlack, IsLeastSlackOrNone}
+use Rattle.mat_exchange.proofs.Common.{◌≡◌, ◌∙◌, ℕ, ◌+◌, ◌<◌, true, false, not, ◌&&◌, ltb, cond, List, length, Option, Some, None, ◌⊎◌, inl, inr, refl, sym, ap, subst, arith, and_from, and_parts, cases_Bool, cases_eq, lt-ltb, ltb-true, not-true, ints, all_below, is_member, minus, AllBelow}
+use Rattle.mat_exchange.proofs.Common.{AllBelow-member, is_member-all_below, is_member-minus, ◌⊖◌, ◌≼◌, is_below, Weight, pairs, at_most_trans, below_at_most, not_below_gives, Exchange, Exchanges, exchanges_in, IsSlack, IsLeastSlackOrNone, IsHeaviestOf, IsHeaviestWeight, IsAdditionSlack}
+use Rattle.mat_exchange.proofs.Common.{IsExchangeSlackAt, IsExchangeSlack, IsLeast, IsLeastOrNone, lesser_of, heaviest_addable_gives, heaviest_addable_from}
 use Rattle.mat_laws.specs.Slacks.IsSlack.{first_addition, first_exchange, second_exchange, second_addition}
-use Rattle.mat_exchange.specs.Growing.{IsHeaviestOf}
-use Rattle.mat_exchange.specs.HeaviestAddable.{IsHeaviestWeight}
-use Rattle.mat_exchange.specs.SlackParts.{IsAdditionSlack, IsExchangeSlackAt, IsExchangeSlack, IsLeast, IsLeastOrNone, lesser_of}
-use Rattle.mat_laws.proofs.TightArcs.{heaviest_addable_gives, heaviest_addable_from}
 use Rattle.mat_exchange.proofs.HeaviestAddable.{addable_below}
 
 -- ---- the least of numbers

@@ -1,13 +1,6 @@
 -- A search along tight arcs is stuck exactly where there is no tight path: a walk from a source stays among what the sources reach, and there is
 -- no sink (Frank 1981).
-use Rattle.std.proofs.Common.{◌≡◌, ℕ, ◌↔◌, true, refl}
-use Rattle.std.proofs.lemmas.Bool.{false≢true}
-use Rattle.mat_sets.specs.declared.weight.Weight.{Weight}
-use Rattle.mat_sets.proofs.Reach.{missed_goals_have_no_walk}
-use Rattle.mat_laws.specs.TightPaths.{is_heaviest_addable, is_tight, Exchanges}
-use Rattle.mat_exchange.specs.Searching.{is_stuck, HasNoTightPath, IsFound}
-use Rattle.mat_exchange.specs.declared.found.Found.{Found}
-use Rattle.mat_exchange.specs.declared.found.Found.TheVariants.{Path, Stuck}
+use Rattle.mat_exchange.proofs.Common.{◌≡◌, ℕ, ◌↔◌, true, refl, false≢true, Weight, missed_goals_have_no_walk, is_heaviest_addable, is_tight, Exchanges, is_stuck, HasNoTightPath, IsFound, Found, Path, Stuck}
 
 pub stuck_told : (n : ℕ) (first second : Exchanges) (w1 w2 : ℕ → Weight) (found : Found) → IsFound n first second w1 w2 found
     → (is_stuck found ≡ true) ↔ HasNoTightPath n first second w1 w2

@@ -1,19 +1,9 @@
 -- How a table is made of exchanges: what the loops keep over the rows and the columns so far. Between two steps the elements below x are
 -- entered, and those that were not missing from the beginning.
-use Rattle.std.proofs.Common.{◌≡◌, ◌≢◌, ℕ, ◌+◌, ◌<◌, ◌≤◌, Bool, true, false, ◌||◌, ◌&&◌, not, cond}
-use Rattle.std.proofs.Common.{ltb, eqb, List, [], length, replicate, set, inl, inr, refl, subst, sym, ap}
-use Rattle.std.proofs.Common.{◌∙◌, arith, get_or-set_other, get_or-set_same, length-set}
-use Rattle.std.proofs.lemmas.Bool.{and_right, both_ways, cases_Bool, cases_eq, cases_lt, cond-false, cond-true, eq-eqb, lt-ltb, le-ltb, ne_eqb}
+use Rattle.mat_exchange.proofs.Common.{◌≡◌, ◌≢◌, ℕ, ◌+◌, ◌<◌, ◌≤◌, Bool, true, false, ◌||◌, ◌&&◌, not, cond, ltb, eqb, List, [], length, replicate, set, inl, inr, refl, subst, sym, ap, ◌∙◌, arith, get_or-set_other, get_or-set_same, length-set, and_right, both_ways, cases_Bool, cases_eq, cases_lt}
+use Rattle.mat_exchange.proofs.Common.{cond-false, cond-true, eq-eqb, lt-ltb, le-ltb, ne_eqb, get_or_default, get_or_past, get_or-replicate, length-replicate, same_lists, is_member, with_one, is_member-with_one, Exchange, exchanges_in, row_in, same_row, AreTransposed, AreWhole, IsFilledTable}
+use Rattle.mat_exchange.proofs.Common.{entered_to, row_from, table_of, written, row_at, AreRemoved, IsEntered}
 use Rattle.std.proofs.lemmas.Bool.Decides.{nat_tests}
-use Rattle.std.proofs.lemmas.List.{get_or_default, get_or_past, get_or-replicate, length-replicate}
-use Rattle.std.proofs.lemmas.List.{same_lists}
-use Rattle.mat_sets.specs.Sets.{is_member, with_one}
-use Rattle.mat_sets.proofs.Members.{is_member-with_one}
-use Rattle.mat_laws.specs.declared.exchange.Exchange.{Exchange}
-use Rattle.mat_laws.specs.TightPaths.{exchanges_in, row_in}
-use Rattle.mat_laws.proofs.Rows.{same_row}
-use Rattle.mat_exchange.specs.RowTables.{AreTransposed, AreWhole, IsFilledTable, entered_to, row_from, table_of, written}
-use Rattle.mat_sets.specs.Rows.{row_at, AreRemoved, IsEntered}
 use Rattle.mat_exchange.proofs.RowTables.{has_written, length-table_of, row_in-table_of}
 use mathlib.Core.Path.{fun_ext}
 

@@ -2,21 +2,11 @@
 -- x 0, y 0, x 1, .., y (m - 1), x m. In the second matroid x m is added and each x i takes the place of y i, in the order of the
 -- path; in the first x 0 is added and x (i + 1) takes the place of y i, in the opposite order. As the path has no chord, both
 -- matroids' halves of the exchange apply, to one and the same set.
-use Rattle.std.proofs.Common.{◌≡◌, ◌≢◌, ℕ, suc, zero, ◌+◌, ◌-◌, ◌<◌, Bool, true, false, not, ◌||◌, ◌&&◌, eqb, List, length, get_or, ◌⊎◌, inl, inr, refl, sym, ap, ◌∙◌, subst, arith}
-use Rattle.std.proofs.lemmas.Bool.{eq-eqb, false_from_ne_true, both_ways}
-use Rattle.mat_sets.specs.Sets.{is_member, with_one, without_one, minus}
-use Rattle.mat_sets.specs.Walks.{IsWalk, IsChordless}
-use Rattle.mat_sets.proofs.Members.{set_members, IsRising-minus, IsRising-union}
-use Rattle.mat_sets.proofs.Ground.{below_member}
-use Rattle.mat_sets.proofs.Reach.{shortest_walk_is_chordless}
-use Rattle.mat_sets.specs.declared.weight.Weight.{Weight}
-use Rattle.mat_laws.specs.Matroids.{IsMatroid}
-use Rattle.mat_laws.specs.Heaviest.{IsHeaviest}
-use Rattle.mat_laws.specs.TightPaths.{exchanges_at, is_heaviest_addable, is_tight, IsTightPath, exchanged_along}
-use Rattle.mat_laws.proofs.Independent.{rising}
+use Rattle.mat_exchange.proofs.Common.{◌≡◌, ◌≢◌, ℕ, suc, zero, ◌+◌, ◌-◌, ◌<◌, Bool, true, false, not, ◌||◌, ◌&&◌, eqb, List, length, get_or, ◌⊎◌, inl, inr, refl, sym, ap, ◌∙◌, subst, arith, eq-eqb, false_from_ne_true, both_ways, is_member, with_one, without_one, minus, IsWalk, IsChordless}
+use Rattle.mat_exchange.proofs.Common.{set_members, IsRising-minus, IsRising-union, below_member, shortest_walk_is_chordless, Weight, IsMatroid, IsHeaviest, exchanges_at, is_heaviest_addable, is_tight, IsTightPath, exchanged_along, rising, IsExchangeable, IsHeaviestAddable, addable_gives}
+use Rattle.mat_exchange.proofs.Common.{addable_from, heaviest_addable_gives, lighter_addable, tight_first, tight_second, tight_from_outside, tight_from_inside}
 use Rattle.mat_laws.proofs.Triangular.{is_value, is_value-first, is_value-list, not_value}
 use Rattle.mat_laws.proofs.PathSides.{IsPathSide, path_side_step}
-use Rattle.mat_laws.proofs.TightArcs.{IsExchangeable, IsHeaviestAddable, addable_gives, addable_from, heaviest_addable_gives, lighter_addable, tight_first, tight_second, tight_from_outside, tight_from_inside}
 
 -- ---- even and odd places
 

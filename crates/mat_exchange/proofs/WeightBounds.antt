@@ -1,11 +1,6 @@
 -- Bounds on both numbers of weights.
-use Rattle.std.proofs.Common.{◌≡◌, ℕ, ◌+◌, ◌*◌, ◌^◌, ◌<◌, ◌≤◌, List, length, sym, arith}
-use Rattle.std.proofs.lemmas.Int.{ints}
+use Rattle.mat_exchange.proofs.Common.{◌≡◌, ℕ, ◌+◌, ◌*◌, ◌^◌, ◌<◌, ◌≤◌, List, length, sym, arith, ints, most_elements, largest_weight, split_room, zero_weight, ◌⊕◌, ◌⊖◌, weight_at, IsWeightWithin, AreWeightsWithin, Weight, pairs}
 use Rattle.std.proofs.lemmas.List.Elements.{All-from_get_or}
-use Rattle.mat_sets.specs.Limits.{most_elements, largest_weight, split_room}
-use Rattle.mat_sets.specs.Weights.{zero_weight, ◌⊕◌, ◌⊖◌, weight_at, IsWeightWithin, AreWeightsWithin}
-use Rattle.mat_sets.specs.declared.weight.Weight.{Weight}
-use Rattle.mat_sets.proofs.WeightOrder.{pairs}
 
 pub IsWeightWithin-weaken : (a b : ℕ) (z : Weight) → a ≤ b → IsWeightWithin a z → IsWeightWithin b z
 IsWeightWithin-weaken a b z le within = omega (arith, ints)

@@ -1,26 +1,10 @@
 -- The change of the weights by the least slack of a reached set R. Each slack is above 0, or R would hold more, or a sink. No exchange
 -- loses its sign, since no slack is less; what was reached stays reached, and the exchange of the least slack reaches one element more.
-use Rattle.std.proofs.Common.{◌≡◌, ℕ, ◌<◌, Bool, true, false, ◌&&◌, List, length, ◌⊎◌, inl, inr, refl, ap, arith}
-use Rattle.std.proofs.lemmas.Bool.{cases_Bool, cond-true, cond-false, both_ways, and_parts, and_from, or_cases, or_left, or_right}
-use Rattle.std.proofs.lemmas.Int.{ints}
-use Rattle.mat_sets.specs.Sets.{is_member, IsSubset, with_one, without_one}
-use Rattle.mat_sets.specs.Walks.{IsReachedSet}
-use Rattle.mat_sets.proofs.Members.{set_members, IsRising-with_one}
-use Rattle.mat_sets.proofs.Cardinalities.{length-with_one}
-use Rattle.mat_sets.proofs.Subsets.{length-subset, with_one-IsSubset}
-use Rattle.mat_sets.proofs.Ground.{below_member}
-use Rattle.mat_sets.proofs.Reach.{reached_by_induction}
-use Rattle.mat_sets.specs.Weights.{zero_weight, ◌⊕◌, ◌⊖◌, ◌≺◌, ◌≼◌, is_same}
-use Rattle.mat_sets.specs.declared.weight.Weight.{Weight}
-use Rattle.mat_sets.proofs.WeightOrder.{pairs, by_below, same_gives, same_from}
-use Rattle.mat_laws.specs.Matroids.{IsMatroid}
-use Rattle.mat_laws.specs.Heaviest.{IsHeaviest}
-use Rattle.mat_laws.specs.TightPaths.{Exchanges, exchanges_at, is_heaviest_addable, is_tight, IsStuckReach}
-use Rattle.mat_laws.specs.Slacks.{IsSlack, IsLeastSlack}
+use Rattle.mat_exchange.proofs.Common.{◌≡◌, ℕ, ◌<◌, Bool, true, false, ◌&&◌, List, length, ◌⊎◌, inl, inr, refl, ap, arith, cases_Bool, cond-true, cond-false, both_ways, and_parts, and_from, or_cases, or_left, or_right, ints, is_member, IsSubset, with_one, without_one, IsReachedSet, set_members}
+use Rattle.mat_exchange.proofs.Common.{IsRising-with_one, length-with_one, length-subset, with_one-IsSubset, below_member, reached_by_induction, zero_weight, ◌⊕◌, ◌⊖◌, ◌≺◌, ◌≼◌, is_same, Weight, pairs, by_below, same_gives, same_from, IsMatroid, IsHeaviest, Exchanges, exchanges_at}
+use Rattle.mat_exchange.proofs.Common.{is_heaviest_addable, is_tight, IsStuckReach, IsSlack, IsLeastSlack, lowered, raised, IsChange, IsExchangeable, exchangeable_gives, exchangeable_from, heaviest_addable_gives, heaviest_addable_from, tight_first, tight_second}
 use Rattle.mat_laws.specs.Slacks.IsSlack.{first_addition, first_exchange, second_exchange, second_addition}
 use Rattle.mat_laws.proofs.LocallyHeaviest.{heaviest_from_exchanges, exchange_gains_nothing}
-use Rattle.mat_exchange.specs.Changes.{lowered, raised, IsChange}
-use Rattle.mat_laws.proofs.TightArcs.{IsExchangeable, exchangeable_gives, exchangeable_from, heaviest_addable_gives, heaviest_addable_from, tight_first, tight_second}
 
 -- ---- the changed weights, element by element
 

@@ -1,14 +1,8 @@
 -- The members in a word are the bits that are set in it. They are gone through from the lowest on, and each is cleared in the rest: so the rest has
 -- the members from some number on.
-use Rattle.std.proofs.Common.{◌≡◌, ℕ, ◌+◌, ◌-◌, ◌^◌, ◌<◌, ◌≤◌, Bool, true, eqb, w64, Option, inl, inr, sym, ap, ◌∙◌, subst, arith}
+use Rattle.mat_exchange.proofs.Common.{◌≡◌, ℕ, ◌+◌, ◌-◌, ◌^◌, ◌<◌, ◌≤◌, Bool, true, eqb, w64, Option, inl, inr, sym, ap, ◌∙◌, subst, arith, cases_eq, cases_lt, eq-eqb, ne_eqb, IsFirstFrom, Weight, cleared, heavier_of, IsHeaviestToOrNone}
 use Rattle.std.specs.Int.{bit_at, trailing_zeros}
-use Rattle.std.proofs.lemmas.Bool.{cases_eq, cases_lt, eq-eqb, ne_eqb}
 use Rattle.std.proofs.lemmas.Nat.Bits.{bit_at-trailing_zeros, bit_at-zero, bit_at_clear_other, bit_at_clear_same}
-use Rattle.mat_sets.specs.Search.{IsFirstFrom}
-use Rattle.mat_sets.specs.declared.weight.Weight.{Weight}
-use Rattle.mat_sets.proofs.BitMembers.{cleared}
-use Rattle.mat_exchange.specs.Growing.{heavier_of}
-use Rattle.mat_exchange.specs.HeaviestMembers.{IsHeaviestToOrNone}
 use Rattle.mat_exchange.proofs.HeaviestMembers.{heaviest_to_next, heaviest_to_on}
 
 -- the numbers of the bits below `low` are gone through, and the rest has the others

@@ -1,23 +1,7 @@
 -- What rules allow of some sets bounds their ranks, the size of what all of them allow, and how many elements disjoint sets hold.
-use Rattle.std.proofs.Common.{◌≡◌, ◌<◌, ◌≤◌, ◌+◌, ℕ, zero, suc, Bool, true, List, [], ◌∷◌, length, refl, ap, arith}
-use Rattle.mat_sets.specs.FallingWeights.{heavy}
-use Rattle.mat_sets.specs.Families.{family_union}
-use Rattle.mat_sets.specs.Sets.{intersection, is_member, minus, IsRising, IsSet, IsSubset}
-use Rattle.mat_sets.specs.declared.weight.Weight.{Weight}
-use Rattle.mat_sets.proofs.Equalities.{intersection-subset}
-use Rattle.mat_sets.proofs.Ground.{below_member}
-use Rattle.mat_sets.proofs.Search.{IsSet-those_below}
-use Rattle.mat_laws.specs.Matroids.{IsMatroid}
-use Rattle.mat_laws.specs.Ranks.{rank}
-use Rattle.mat_laws.proofs.Independent.{rising}
-use Rattle.mat_laws.proofs.RankLaws.{rank_is}
-use Rattle.mat_union.specs.RightUnions.{IsLevelCut}
-use Rattle.mat_union.specs.Unions.{test_at, AreMatroids, AreParts, ranks_sum}
+use Rattle.mat_facts.proofs.Common.{◌≡◌, ◌<◌, ◌≤◌, ◌+◌, ℕ, zero, suc, Bool, true, List, [], ◌∷◌, length, refl, ap, arith, heavy, family_union, intersection, is_member, minus, IsRising, IsSet, IsSubset, Weight, intersection-subset, below_member, IsSet-those_below, IsMatroid, rank, rising, rank_is}
+use Rattle.mat_facts.proofs.Common.{IsLevelCut, test_at, AreMatroids, AreParts, ranks_sum, weighs, weight_at, AllowsAtMost, count_of_first}
 use Rattle.mat_union.specs.PartListLaws.{cut_bounds}
-use Rattle.mat_union.proofs.Dominated.{weighs}
-use Rattle.mat_sets.specs.Weights.{weight_at}
-use Rattle.mat_facts.specs.Allowances.{AllowsAtMost}
-use Rattle.mat_facts.specs.Terms.{count_of_first}
 use Rattle.mat_facts.proofs.DividedSets.{counts_grow, divided}
 
 -- the rank is no more than what the rule allows

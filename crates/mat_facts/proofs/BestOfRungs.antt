@@ -1,24 +1,9 @@
 -- Where each rung bounds its size by steps that fall, the heaviest rung is heaviest of all sizes: the steps of the rung before it are not below
 -- 0, since its set would weigh less otherwise; and the last step of the rung behind it is not above 0.
-use Rattle.std.proofs.Common.{◌≡◌, true, Bool, ◌<◌, ◌≤◌, ◌-◌, ◌⊎◌, ℕ, suc, List, [], ◌∷◌, length, None, Some, slice_get, inl, inr, refl, sym, ap, ◌∙◌, subst, arith}
-use Rattle.std.proofs.lemmas.Bool.{cases_lt}
-use Rattle.std.proofs.lemmas.Int.{ints}
-use Rattle.std.proofs.lemmas.Option.{slice_get_cases}
+use Rattle.mat_facts.proofs.Common.{◌≡◌, true, Bool, ◌<◌, ◌≤◌, ◌-◌, ◌⊎◌, ℕ, suc, List, [], ◌∷◌, length, None, Some, slice_get, inl, inr, refl, sym, ap, ◌∙◌, subst, arith, cases_lt, ints, slice_get_cases, ◌⊕◌, ◌≼◌, weight, zero_weight, Weight, at_most_same, at_most_trans, pairs, Instance, IsValid}
+use Rattle.mat_facts.proofs.Common.{Certificate, PlainRung, AreAllowedRungs, Fact, allowed, few_above, shared, Holds, AllAllow, rule_at, rule_count, size_of, weights_of, each_size, BoundsEachSize, BoundsLarger, BoundsSize, BoundsSmaller, IsNothing, ShowsEachRung, ShowsNoLarger, list_at, step_at}
+use Rattle.mat_facts.proofs.Common.{sum_of_first}
 use Rattle.std.specs.List.{All, Contains}
-use Rattle.mat_sets.specs.Weights.{◌⊕◌, ◌≼◌, weight, zero_weight}
-use Rattle.mat_sets.specs.declared.weight.Weight.{Weight}
-use Rattle.mat_sets.proofs.WeightOrder.{at_most_same, at_most_trans, pairs}
-use Rattle.mat_problem.specs.Instances.{Instance}
-use Rattle.mat_problem.specs.Validity.{IsValid}
-use Rattle.mat_cert.specs.Certificates.{Certificate}
-use Rattle.mat_cert.specs.declared.answer.PlainRung.{PlainRung}
-use Rattle.mat_facts.specs.Answers.{AreAllowedRungs}
-use Rattle.mat_facts.specs.Facts.{Fact, allowed, few_above, shared}
-use Rattle.mat_facts.specs.Holding.{Holds}
-use Rattle.mat_facts.specs.Problems.{AllAllow, rule_at, rule_count, size_of, weights_of}
-use Rattle.mat_facts.specs.Reasons.{each_size}
-use Rattle.mat_facts.specs.Sufficing.{BoundsEachSize, BoundsLarger, BoundsSize, BoundsSmaller, IsNothing, ShowsEachRung, ShowsNoLarger}
-use Rattle.mat_facts.specs.Terms.{list_at, step_at, sum_of_first}
 use Rattle.mat_facts.proofs.GivenBounds.{FallingBound}
 use Rattle.mat_facts.proofs.RulesOfProblems.{allowed_set}
 use Rattle.mat_facts.proofs.SharedBounds.{before_last, by_terms, last_from, last_inside, last_low, past_last}

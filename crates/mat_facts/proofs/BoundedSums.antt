@@ -1,12 +1,7 @@
 -- A set of whose members at most l have more than the l-th of some terms weighs at most as much as these terms together: as long as there are
 -- members, one has at most the last term; it goes with that term. So no order of the members or of the terms is needed.
-use Rattle.std.proofs.Common.{◌≡◌, ◌<◌, ◌≤◌, ℕ, zero, suc, Bool, true, false, cond, List, [], ◌∷◌, length, refl, ap, arith}
-use Rattle.std.proofs.lemmas.Int.{ints}
+use Rattle.mat_facts.proofs.Common.{◌≡◌, ◌<◌, ◌≤◌, ℕ, zero, suc, Bool, true, false, cond, List, [], ◌∷◌, length, refl, ap, arith, ints, ◌⊕◌, ◌≼◌, is_below, weight_sum, Weight, pairs, not_below_gives, count_above, sum_of_first}
 use Rattle.std.specs.List.{filter}
-use Rattle.mat_sets.specs.Weights.{◌⊕◌, ◌≼◌, is_below, weight_sum}
-use Rattle.mat_sets.specs.declared.weight.Weight.{Weight}
-use Rattle.mat_sets.proofs.WeightOrder.{pairs, not_below_gives}
-use Rattle.mat_facts.specs.Terms.{count_above, sum_of_first}
 
 -- one of the items taken out of a list
 record Taken (share : ℕ → Weight) (t : Weight) (X : List ℕ) : Type 0 where

@@ -1,10 +1,6 @@
 -- A set whose members are all in some sets has at most as many members as the sets have of it together.
-use Rattle.std.proofs.Common.{◌≡◌, ◌<◌, ◌≤◌, ℕ, zero, suc, Bool, true, false, cond, List, [], ◌∷◌, length, inl, inr, subst, arith}
-use Rattle.std.proofs.lemmas.Bool.{cases_eq, or_right}
+use Rattle.mat_facts.proofs.Common.{◌≡◌, ◌<◌, ◌≤◌, ℕ, zero, suc, Bool, true, false, cond, List, [], ◌∷◌, length, inl, inr, subst, arith, cases_eq, or_right, intersection, is_member, is_member-head, count_of_first}
 use Rattle.std.specs.List.{filter}
-use Rattle.mat_sets.specs.Sets.{intersection, is_member}
-use Rattle.mat_sets.proofs.Members.{is_member-head}
-use Rattle.mat_facts.specs.Terms.{count_of_first}
 
 -- larger numbers have a larger sum
 pub counts_grow : (f g : ℕ → ℕ) (m : ℕ) → ((i : ℕ) → i < m → f i ≤ g i) → count_of_first f m ≤ count_of_first g m

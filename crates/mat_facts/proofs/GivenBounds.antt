@@ -1,25 +1,8 @@
 -- Where facts of the given forms stand in a list, they bound sizes: of one rule, and of two.
-use Rattle.std.proofs.Common.{◌≡◌, ◌<◌, ◌≤◌, ◌+◌, ℕ, zero, suc, Bool, true, List, [], ◌∷◌, length, get_or, inl, inr, sym, ◌∙◌, subst, arith}
-use Rattle.std.proofs.lemmas.Bool.{cases_Bool, and_from, lt-ltb, not_from_false}
-use Rattle.std.proofs.lemmas.Int.{ints}
+use Rattle.mat_facts.proofs.Common.{◌≡◌, ◌<◌, ◌≤◌, ◌+◌, ℕ, zero, suc, Bool, true, List, [], ◌∷◌, length, get_or, inl, inr, sym, ◌∙◌, subst, arith, cases_Bool, and_from, lt-ltb, not_from_false, ints, all_below, intersection, is_member, minus, IsSet, ◌⊕◌, ◌≼◌, weight, weight_at, Weight}
+use Rattle.mat_facts.proofs.Common.{is_member-all_below, is_member-minus, IsRising-intersection, intersection-left, intersection-right, pairs, IsMatroid, rank, rising, rank_is, Instance, AllowsAtMost, Fact, at_most, few_above, shared, rule_count, size_of, BoundsSize, DividesElements, count_of_first}
+use Rattle.mat_facts.proofs.Common.{falling_terms, list_at, step_at, sum_of_first}
 use Rattle.std.specs.List.{Contains}
-use Rattle.mat_sets.specs.Sets.{all_below, intersection, is_member, minus, IsSet}
-use Rattle.mat_sets.specs.Weights.{◌⊕◌, ◌≼◌, weight, weight_at}
-use Rattle.mat_sets.specs.declared.weight.Weight.{Weight}
-use Rattle.mat_sets.proofs.Ground.{is_member-all_below}
-use Rattle.mat_sets.proofs.Members.{is_member-minus, IsRising-intersection}
-use Rattle.mat_sets.proofs.Subsets.{intersection-left, intersection-right}
-use Rattle.mat_sets.proofs.WeightOrder.{pairs}
-use Rattle.mat_laws.specs.Matroids.{IsMatroid}
-use Rattle.mat_laws.specs.Ranks.{rank}
-use Rattle.mat_laws.proofs.Independent.{rising}
-use Rattle.mat_laws.proofs.RankLaws.{rank_is}
-use Rattle.mat_problem.specs.Instances.{Instance}
-use Rattle.mat_facts.specs.Allowances.{AllowsAtMost}
-use Rattle.mat_facts.specs.Facts.{Fact, at_most, few_above, shared}
-use Rattle.mat_facts.specs.Problems.{rule_count, size_of}
-use Rattle.mat_facts.specs.Sufficing.{BoundsSize, DividesElements}
-use Rattle.mat_facts.specs.Terms.{count_of_first, falling_terms, list_at, step_at, sum_of_first}
 use Rattle.mat_facts.proofs.FallingTerms.{length-falling_terms, sum-falling_terms, terms_fall}
 use Rattle.mat_facts.proofs.TermSums.{sums_exchange, sums_grow}
 

@@ -1,21 +1,12 @@
 -- Where a set is heaviest of its size, no independent set has more members above any of its terms: one that had would give it a member for a
 -- lighter one.
-use Rattle.std.proofs.Common.{◌≡◌, ◌<◌, ◌≤◌, ℕ, Bool, true, false, not, ◌||◌, eqb, List, length, inl, inr, refl, sym, ◌∙◌, subst, arith}
-use Rattle.std.proofs.lemmas.Bool.{and_parts, and_from, both_ways, cases_eq, cases_lt, eq-eqb, eqb-true, false_from_ne_true, ne_eqb, not_from_false, or_cases, or_left, or_right}
+use Rattle.mat_facts.proofs.Common.{◌≡◌, ◌<◌, ◌≤◌, ℕ, Bool, true, false, not, ◌||◌, eqb, List, length, inl, inr, refl, sym, ◌∙◌, subst, arith, and_parts, and_from, both_ways, cases_eq, cases_lt, eq-eqb, eqb-true, false_from_ne_true, ne_eqb, not_from_false, or_cases, or_left, or_right, is_member}
+use Rattle.mat_facts.proofs.Common.{with_one, without_one, IsRising, IsSubset, ◌≼◌, is_below, weight_at, Weight, IsRising-filter, is_member-filter, is_member-with_one, is_member-without_one, IsRising-with_one, IsRising-without_one, same_size_subset, subset_or, at_most_not, at_most_trans}
+use Rattle.mat_facts.proofs.Common.{below_gives, not_below_gives, IsMatroid, grow_to_size, rising, IsGrown, count_above, falling_terms}
 use Rattle.std.specs.List.{filter}
-use Rattle.mat_sets.specs.Sets.{is_member, with_one, without_one, IsRising, IsSubset}
-use Rattle.mat_sets.specs.Weights.{◌≼◌, is_below, weight_at}
-use Rattle.mat_sets.specs.declared.weight.Weight.{Weight}
 use Rattle.mat_sets.proofs.Cardinalities.{length-exchange_one, length-with_one}
-use Rattle.mat_sets.proofs.Filters.{IsRising-filter}
-use Rattle.mat_sets.proofs.Members.{is_member-filter, is_member-with_one, is_member-without_one, IsRising-with_one, IsRising-without_one}
-use Rattle.mat_sets.proofs.Subsets.{same_size_subset, subset_or}
-use Rattle.mat_sets.proofs.WeightOrder.{at_most_not, at_most_trans, below_gives, not_below_gives}
 use Rattle.mat_laws.specs.Heaviest.{IsHeaviest}
-use Rattle.mat_laws.specs.Matroids.{IsMatroid}
-use Rattle.mat_laws.proofs.Independent.{grow_to_size, rising, IsGrown}
 use Rattle.mat_laws.proofs.LocallyHeaviest.{exchange_gains_nothing}
-use Rattle.mat_facts.specs.Terms.{count_above, falling_terms}
 use Rattle.mat_facts.proofs.FallingTerms.{length-falling_terms, members_above}
 
 -- a member of X + e other than y is one of X - y + e

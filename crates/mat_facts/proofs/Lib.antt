@@ -1,3 +1,4 @@
+pub mod Common
 pub mod TermSums
 pub mod BoundedSums
 pub mod SharedBounds

@@ -1,11 +1,6 @@
 -- What stands in lists that are put together, and what holds of all that stands there.
-use Rattle.std.proofs.Common.{◌≡◌, ◌+◌, ℕ, zero, suc, Bool, true, false, cond, List, [], ◌∷◌, None, Some, slice_get, refl, sym, subst, arith}
-use Rattle.std.proofs.lemmas.List.Elements.{All-append, All-cons, All-nil, Contains-append_left, Contains-append_right}
-use Rattle.std.proofs.lemmas.Option.{same_Some}
+use Rattle.mat_facts.proofs.Common.{◌≡◌, ◌+◌, ℕ, zero, suc, Bool, true, false, cond, List, [], ◌∷◌, None, Some, slice_get, refl, sym, subst, arith, All-append, All-cons, All-nil, Contains-append_left, Contains-append_right, same_Some, flat_map, Fact, sizes_facts}
 use Rattle.std.specs.List.{All, Contains}
-use Rattle.std.specs.Prelude.{flat_map}
-use Rattle.mat_facts.specs.Facts.{Fact}
-use Rattle.mat_facts.specs.Reasons.{sizes_facts}
 
 module _ {X : Type 0} where
   pub stands_later : (x y : X) (xs : List X) → Contains xs x → Contains (y ∷ xs) x

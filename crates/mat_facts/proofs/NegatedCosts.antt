@@ -1,13 +1,5 @@
 -- Costs that count negated: what arcs weigh is their cost, negated.
-use Rattle.std.proofs.Common.{◌≡◌, ◌<◌, ℕ, List, [], ◌∷◌, length, map, refl, ◌∙◌, arith}
-use Rattle.std.proofs.lemmas.Int.{ints}
-use Rattle.std.proofs.lemmas.List.{get_or-map}
-use Rattle.mat_sets.specs.Sets.{IsSet}
-use Rattle.mat_sets.specs.Weights.{negated, weight, weight_at, weight_sum, zero_weight}
-use Rattle.mat_sets.specs.declared.weight.Weight.{Weight}
-use Rattle.mat_sets.proofs.Ground.{below_member}
-use Rattle.mat_sets.proofs.WeightOrder.{pairs}
-use Rattle.mat_sets.proofs.WeightSums.{weight_sum-same}
+use Rattle.mat_facts.proofs.Common.{◌≡◌, ◌<◌, ℕ, List, [], ◌∷◌, length, map, refl, ◌∙◌, arith, ints, get_or-map, IsSet, negated, weight, weight_at, weight_sum, zero_weight, Weight, below_member, pairs, weight_sum-same}
 
 module _ (arcs : List (ℕ × ℕ)) (costs : List Weight) (long : length costs ≡ length arcs) where
   negated_sum : (Y : List ℕ) → weight_sum (λ a. negated (weight_at costs a)) Y ≡ negated (weight costs Y)

@@ -1,31 +1,10 @@
 -- Where no cost is below 0, arcs along which the root reaches every vertex cost at least as much as a spanning arborescence among them.
-use Rattle.std.proofs.Common.{◌≡◌, ◌<◌, ◌≤◌, ◌+◌, ◌-◌, ℕ, Bool, true, false, ◌&&◌, cond, List, [], ◌∷◌, length, map, refl, ◌∙◌, subst, arith}
-use Rattle.std.proofs.lemmas.Bool.{and_from, or_right}
-use Rattle.std.proofs.lemmas.Int.{ints}
-use Rattle.std.proofs.lemmas.List.{get_or-map}
+use Rattle.mat_facts.proofs.Common.{◌≡◌, ◌<◌, ◌≤◌, ◌+◌, ◌-◌, ℕ, Bool, true, false, ◌&&◌, cond, List, [], ◌∷◌, length, map, refl, ◌∙◌, subst, arith, and_from, or_right, ints, get_or-map, indicator, ends_of, entering, enters, IsGraph, IsSpanningArborescence, Reaches, is_member, IsSet, IsSubset, ◌≼◌}
+use Rattle.mat_facts.proofs.Common.{negated, weight, weight_at, weight_sum, zero_weight, Weight, is_member-entering, walk_enters, IsRising-filter, below_member, is_member-filter, is_member-head, member_from_some, same_members, some_from_member, pairs, is_graphic, is_entering_once}
+use Rattle.mat_facts.proofs.Common.{common_from_arborescence, rooted, IsValid, Certificate, rooted_is_graph, root_is_below, Fact, none_gains, Holds, ShowsCheapestReach}
 use Rattle.std.specs.List.{All, filter}
-use Rattle.mat_sets.specs.Families.{indicator}
-use Rattle.mat_sets.specs.Graphs.{ends_of, entering, enters, IsGraph, IsSpanningArborescence, Reaches}
-use Rattle.mat_sets.specs.Sets.{is_member, IsSet, IsSubset}
-use Rattle.mat_sets.specs.Weights.{◌≼◌, negated, weight, weight_at, weight_sum, zero_weight}
-use Rattle.mat_sets.specs.declared.weight.Weight.{Weight}
-use Rattle.mat_sets.proofs.Crossings.{is_member-entering, walk_enters}
-use Rattle.mat_sets.proofs.Filters.{IsRising-filter}
-use Rattle.mat_sets.proofs.Ground.{below_member}
-use Rattle.mat_sets.proofs.Members.{is_member-filter, is_member-head, member_from_some, same_members, some_from_member}
-use Rattle.mat_sets.proofs.WeightOrder.{pairs}
-use Rattle.mat_graphic.specs.Forests.{is_graphic}
-use Rattle.mat_arbor.specs.Heads.{is_entering_once}
-use Rattle.mat_arbor.proofs.LeastTrees.{common_from_arborescence}
 use Rattle.mat_branch.specs.Growth.{AreEntered}
 use Rattle.mat_branch.proofs.GrowthSteps.{grow, Grows-start}
-use Rattle.mat_problem.specs.Instances.{rooted}
-use Rattle.mat_problem.specs.Validity.{IsValid}
-use Rattle.mat_cert.specs.Certificates.{Certificate}
-use Rattle.mat_check.proofs.ValidGraphs.{rooted_is_graph, root_is_below}
-use Rattle.mat_facts.specs.Facts.{Fact, none_gains}
-use Rattle.mat_facts.specs.Holding.{Holds}
-use Rattle.mat_facts.specs.Sufficing.{ShowsCheapestReach}
 use Rattle.mat_facts.proofs.NegatedCosts.{negated_weight}
 use Rattle.mat_facts.proofs.RulesOfProblems.{both_allow}
 use Rattle.mat_facts.proofs.SufficientBounds.{said, size_is_bounded}

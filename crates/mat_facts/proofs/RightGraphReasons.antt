@@ -1,32 +1,9 @@
 -- Right answers on graphs give reasons.
-use Rattle.std.proofs.Common.{◌≡◌, ◌<◌, ◌-◌, ℕ, zero, suc, Bool, true, false, not, cond, List, [], ◌∷◌, ◌++◌, length, map, inr, refl, sym, ap, ◌∙◌, subst, arith}
-use Rattle.std.proofs.lemmas.Bool.{and_from, and_parts, both_ways, ltb-true, not-true, not_from_false}
-use Rattle.std.proofs.lemmas.Int.{ints}
-use Rattle.std.proofs.lemmas.List.{get_or-map}
-use Rattle.std.proofs.lemmas.List.Elements.{All-append, All-cons, All-nil, Contains-append_right}
+use Rattle.mat_facts.proofs.Common.{◌≡◌, ◌<◌, ◌-◌, ℕ, zero, suc, Bool, true, false, not, cond, List, [], ◌∷◌, ◌++◌, length, map, inr, refl, sym, ap, ◌∙◌, subst, arith, and_from, and_parts, both_ways, ltb-true, not-true, not_from_false, ints, get_or-map, All-append, All-cons, All-nil}
+use Rattle.mat_facts.proofs.Common.{Contains-append_right, ends_of, entering, enters, IsUnentered, all_below, is_member, ◌⊕◌, ◌≼◌, is_below, negated, weight, weight_at, zero_weight, Weight, is_member-entering, no_members, below_member, is_member-all_below, at_most_same, not_below_from}
+use Rattle.mat_facts.proofs.Common.{not_below_gives, pairs, weight_sum-plus, IsMatroid, is_graphic, crossing, AreTrees, IsRightPartition, is_entering_once, AreDisjointArborescences, IsSeldomEntered, Instance, graph, rooted, IsValid, Certificate, arbor, disjoint, disjoint_none, trees, trees_none}
+use Rattle.mat_facts.proofs.Common.{unreached, IsRight, Fact, allowed, between, entered_by, groups, none_gains, without_root, Holds, ShowsCheapestReach, are_costs, costs_facts, each_size, reason_of, size_facts}
 use Rattle.std.specs.List.{All}
-use Rattle.mat_sets.specs.Graphs.{ends_of, entering, enters, IsUnentered}
-use Rattle.mat_sets.specs.Sets.{all_below, is_member}
-use Rattle.mat_sets.specs.Weights.{◌⊕◌, ◌≼◌, is_below, negated, weight, weight_at, zero_weight}
-use Rattle.mat_sets.specs.declared.weight.Weight.{Weight}
-use Rattle.mat_sets.proofs.Crossings.{is_member-entering}
-use Rattle.mat_sets.proofs.DisjointSets.{no_members}
-use Rattle.mat_sets.proofs.Ground.{below_member, is_member-all_below}
-use Rattle.mat_sets.proofs.WeightOrder.{at_most_same, not_below_from, not_below_gives, pairs}
-use Rattle.mat_sets.proofs.WeightSums.{weight_sum-plus}
-use Rattle.mat_laws.specs.Matroids.{IsMatroid}
-use Rattle.mat_graphic.specs.Forests.{is_graphic}
-use Rattle.mat_packing.specs.Trees.{crossing, AreTrees, IsRightPartition}
-use Rattle.mat_arbor.specs.Heads.{is_entering_once}
-use Rattle.mat_branch.specs.Arborescences.{AreDisjointArborescences, IsSeldomEntered}
-use Rattle.mat_problem.specs.Instances.{Instance, graph, rooted}
-use Rattle.mat_problem.specs.Validity.{IsValid}
-use Rattle.mat_cert.specs.Certificates.{Certificate, arbor, disjoint, disjoint_none, trees, trees_none, unreached}
-use Rattle.mat_right.specs.Right.{IsRight}
-use Rattle.mat_facts.specs.Facts.{Fact, allowed, between, entered_by, groups, none_gains, without_root}
-use Rattle.mat_facts.specs.Holding.{Holds}
-use Rattle.mat_facts.specs.Sufficing.{ShowsCheapestReach}
-use Rattle.mat_facts.specs.Reasons.{are_costs, costs_facts, each_size, reason_of, size_facts}
 use Rattle.mat_facts.proofs.GivenBounds.{bound_by_two}
 use Rattle.mat_facts.proofs.HeaviestTerms.{terms_of_heaviest}
 use Rattle.mat_facts.proofs.ListedFacts.{all_one, all_two, stands_later}

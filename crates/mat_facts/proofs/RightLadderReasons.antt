@@ -1,32 +1,9 @@
 -- Right ladders give reasons: of two matroids, of colours, of a table, and of one matroid.
-use Rattle.std.proofs.Common.{◌≡◌, ◌+◌, ◌<◌, ◌≤◌, ℕ, Bool, true, List, [], ◌∷◌, ◌++◌, length, get_or, Option, None, Some, slice_get, inl, inr, refl, sym, subst, arith}
-use Rattle.std.proofs.lemmas.Int.{ints}
-use Rattle.std.proofs.lemmas.List.Elements.{All-append, All-cons, All-nil, Contains-append_left, Contains-append_right}
-use Rattle.std.proofs.lemmas.Option.{slice_get_cases}
+use Rattle.mat_facts.proofs.Common.{◌≡◌, ◌+◌, ◌<◌, ◌≤◌, ℕ, Bool, true, List, [], ◌∷◌, ◌++◌, length, get_or, Option, None, Some, slice_get, inl, inr, refl, sym, subst, arith, ints, All-append, All-cons, All-nil, Contains-append_left, Contains-append_right, slice_get_cases, MatchOption, ends_of}
+use Rattle.mat_facts.proofs.Common.{weight_at, Weight, at_most_same, pairs, IsMatroid, is_graphic, number_of_components, Tree, is_independent, column_at, row_at, is_once, Instance, pair, list, coloured, table, IsValid, Certificate, intersect, best, rainbow, assign, last_rung, PlainRung, PricedRung}
+use Rattle.mat_facts.proofs.Common.{AreRightRungs, IsRight, IsRightLadder, IsRightRainbow, AddUp, Fact, allowed, falls_apart, few_above, full, shared, Holds, colours_facts, each_size, ladder_facts, last_facts, reason_of, sizes_facts, whole_facts, AreAllowedRungs, rungs_of, ShowsNoLarger, Suffice}
 use Rattle.std.specs.List.{All, Contains}
-use Rattle.std.specs.Prelude.{MatchOption}
-use Rattle.mat_sets.specs.Graphs.{ends_of}
-use Rattle.mat_sets.specs.Weights.{weight_at}
-use Rattle.mat_sets.specs.declared.weight.Weight.{Weight}
-use Rattle.mat_sets.proofs.WeightOrder.{at_most_same, pairs}
-use Rattle.mat_laws.specs.Matroids.{IsMatroid}
-use Rattle.mat_graphic.specs.Forests.{is_graphic, number_of_components}
-use Rattle.mat_any.specs.Trees.{Tree, is_independent}
-use Rattle.mat_fronts.specs.Assignments.{column_at, row_at}
-use Rattle.mat_fronts.specs.Once.{is_once}
 use Rattle.mat_fronts.specs.Rainbow.{IsMissingColours, edges_without}
-use Rattle.mat_problem.specs.Instances.{Instance, pair, list, coloured, table}
-use Rattle.mat_problem.specs.Validity.{IsValid}
-use Rattle.mat_cert.specs.Certificates.{Certificate, intersect, best, rainbow, assign, last_rung}
-use Rattle.mat_cert.specs.declared.answer.PlainRung.{PlainRung}
-use Rattle.mat_cert.specs.declared.answer.PricedRung.{PricedRung}
-use Rattle.mat_right.specs.Right.{AreRightRungs, IsRight, IsRightLadder, IsRightRainbow}
-use Rattle.mat_facts.specs.Allowances.{AddUp}
-use Rattle.mat_facts.specs.Facts.{Fact, allowed, falls_apart, few_above, full, shared}
-use Rattle.mat_facts.specs.Holding.{Holds}
-use Rattle.mat_facts.specs.Reasons.{colours_facts, each_size, ladder_facts, last_facts, reason_of, sizes_facts, whole_facts}
-use Rattle.mat_facts.specs.Answers.{AreAllowedRungs, rungs_of}
-use Rattle.mat_facts.specs.Sufficing.{ShowsNoLarger, Suffice}
 use Rattle.mat_facts.proofs.BestOfRungs.{ShowsFallingRungs}
 use Rattle.mat_facts.proofs.GivenBounds.{FallingBound, bound_by_one, terms_of}
 use Rattle.mat_facts.proofs.HeaviestTerms.{terms_of_heaviest}

@@ -1,19 +1,8 @@
 -- Each right answer gives a reason: facts that hold and suffice.
-use Rattle.std.proofs.Common.{◌<◌, ◌-◌, ◌∙◌, suc, true, Bool, length, inl, inr, sym, arith, ◌≡◌, ℕ, [], ◌∷◌, None, Some, slice_get, ◌+◌, ◌≤◌, ◌⊎◌, ◌||◌, eqb, refl}
-use Rattle.std.proofs.lemmas.Bool.{cases_lt, eq-eqb, or_left, or_right}
-use Rattle.std.proofs.lemmas.Option.{slice_get_cases}
+use Rattle.mat_facts.proofs.Common.{◌<◌, ◌-◌, ◌∙◌, suc, true, Bool, length, inl, inr, sym, arith, ◌≡◌, ℕ, [], ◌∷◌, None, Some, slice_get, ◌+◌, ◌≤◌, ◌⊎◌, ◌||◌, eqb, refl, cases_lt, eq-eqb, or_left, or_right, slice_get_cases, ◌≼◌, PlainRung, Instance, pair, list, graph, rooted, coloured, table}
+use Rattle.mat_facts.proofs.Common.{IsValid, Certificate, intersect, best, union_of, pack_any, pack, cover_never, cover, trees, trees_none, arbor, unreached, disjoint, disjoint_none, rainbow, assign, IsRight, rungs_of, Holds, each_size, reason_of, told_sizes, BoundsEachSize, BoundsSize}
+use Rattle.mat_facts.proofs.Common.{ShowsEachRung}
 use Rattle.std.specs.List.{All}
-use Rattle.mat_sets.specs.Weights.{◌≼◌}
-use Rattle.mat_cert.specs.declared.answer.PlainRung.{PlainRung}
-use Rattle.mat_problem.specs.Instances.{Instance, pair, list, graph, rooted, coloured, table}
-use Rattle.mat_problem.specs.Validity.{IsValid}
-use Rattle.mat_cert.specs.Certificates.{Certificate, intersect, best, union_of, pack_any, pack, cover_never, cover, trees, trees_none}
-use Rattle.mat_cert.specs.Certificates.{arbor, unreached, disjoint, disjoint_none, rainbow, assign}
-use Rattle.mat_right.specs.Right.{IsRight}
-use Rattle.mat_facts.specs.Answers.{rungs_of}
-use Rattle.mat_facts.specs.Holding.{Holds}
-use Rattle.mat_facts.specs.Reasons.{each_size, reason_of, told_sizes}
-use Rattle.mat_facts.specs.Sufficing.{BoundsEachSize, BoundsSize, ShowsEachRung}
 use Rattle.mat_facts.proofs.BestOfRungs.{heaviest_shown, rungs_shown}
 use Rattle.mat_facts.proofs.RightGraphReasons.{arborescences_give, least_gives, partition_gives, seldom_entered_gives, trees_give, unreached_gives}
 use Rattle.mat_facts.proofs.RightLadderReasons.{assignment_gives, best_gives, intersection_gives, rainbow_gives, GivesReason, GivesRungs}

@@ -1,30 +1,9 @@
 -- A right ladder of two rules gives facts that hold and suffice: each rung bounds its size by the terms of its set, and the cut all sizes.
-use Rattle.std.proofs.Common.{◌≡◌, ◌+◌, ◌<◌, ℕ, zero, suc, Bool, true, List, [], ◌∷◌, ◌++◌, length, map, None, Some, slice_get, inl, inr, refl, sym, ap, ◌∙◌, subst, arith}
-use Rattle.std.proofs.lemmas.Int.{ints}
-use Rattle.std.proofs.lemmas.List.{length-map}
-use Rattle.std.proofs.lemmas.List.Elements.{All-append, All-cons, Contains-append_left, Contains-append_right}
-use Rattle.std.proofs.lemmas.Option.{same_Some}
+use Rattle.mat_facts.proofs.Common.{◌≡◌, ◌+◌, ◌<◌, ℕ, zero, suc, Bool, true, List, [], ◌∷◌, ◌++◌, length, map, None, Some, slice_get, inl, inr, refl, sym, ap, ◌∙◌, subst, arith, ints, length-map, All-append, All-cons, Contains-append_left, Contains-append_right, same_Some, all_below, minus, ◌⊕◌}
+use Rattle.mat_facts.proofs.Common.{weight, weight_at, Weight, IsSet-all_below, IsSet-minus, at_most_same, pairs, IsMatroid, rank, Instance, Certificate, PlainRung, PricedRung, IsRightLadder, AddUp, AllowsAtMost, HasFewAbove, AreAllowedRungs, IsAllowedRung, plain_rung, Fact, allowed, at_most}
+use Rattle.mat_facts.proofs.Common.{few_above, shared, Holds, AllAllow, rule_count, size_of, weights_of, cut_facts, ladder_facts, rung_facts, shares_of, size_facts, sizes_facts, ShowsNoLarger}
 use Rattle.std.specs.List.{All, Contains}
-use Rattle.mat_sets.specs.Sets.{all_below, minus}
-use Rattle.mat_sets.specs.Weights.{◌⊕◌, weight, weight_at}
-use Rattle.mat_sets.specs.declared.weight.Weight.{Weight}
-use Rattle.mat_sets.proofs.Ground.{IsSet-all_below, IsSet-minus}
-use Rattle.mat_sets.proofs.WeightOrder.{at_most_same, pairs}
-use Rattle.mat_laws.specs.Matroids.{IsMatroid}
-use Rattle.mat_laws.specs.Ranks.{rank}
 use Rattle.mat_laws.proofs.BestLadders.{split_weight}
-use Rattle.mat_problem.specs.Instances.{Instance}
-use Rattle.mat_cert.specs.Certificates.{Certificate}
-use Rattle.mat_cert.specs.declared.answer.PlainRung.{PlainRung}
-use Rattle.mat_cert.specs.declared.answer.PricedRung.{PricedRung}
-use Rattle.mat_right.specs.Right.{IsRightLadder}
-use Rattle.mat_facts.specs.Allowances.{AddUp, AllowsAtMost, HasFewAbove}
-use Rattle.mat_facts.specs.Answers.{AreAllowedRungs, IsAllowedRung, plain_rung}
-use Rattle.mat_facts.specs.Facts.{Fact, allowed, at_most, few_above, shared}
-use Rattle.mat_facts.specs.Holding.{Holds}
-use Rattle.mat_facts.specs.Problems.{AllAllow, rule_count, size_of, weights_of}
-use Rattle.mat_facts.specs.Reasons.{cut_facts, ladder_facts, rung_facts, shares_of, size_facts, sizes_facts}
-use Rattle.mat_facts.specs.Sufficing.{ShowsNoLarger}
 use Rattle.mat_facts.proofs.GivenBounds.{FallingBound, allows_rank, bound_by_two, divided_by_cut, terms_of}
 use Rattle.mat_facts.proofs.HeaviestTerms.{terms_of_heaviest}
 use Rattle.mat_facts.proofs.BestOfRungs.{ShowsFallingRungs}

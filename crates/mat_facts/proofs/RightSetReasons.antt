@@ -1,43 +1,10 @@
 -- Right unions, packings and coverings give reasons: what a rule allows of a cut at most is its rank.
-use Rattle.std.proofs.Common.{◌≡◌, ◌<◌, ◌≤◌, ◌-◌, ◌+◌, ◌*◌, ℕ, zero, suc, Bool, true, false, List, [], ◌∷◌, length, map, get_or, Option, None, Some, slice_get, inl, inr, refl, sym, ap, subst, arith}
-use Rattle.std.proofs.lemmas.Bool.{both_ways}
-use Rattle.std.proofs.lemmas.List.{get_or-map}
-use Rattle.std.proofs.lemmas.List.Elements.{All-cons, All-nil}
-use Rattle.std.proofs.lemmas.Option.{same_Some}
+use Rattle.mat_facts.proofs.Common.{◌≡◌, ◌<◌, ◌≤◌, ◌-◌, ◌+◌, ◌*◌, ℕ, zero, suc, Bool, true, false, List, [], ◌∷◌, length, map, get_or, Option, None, Some, slice_get, inl, inr, refl, sym, ap, subst, arith, both_ways, get_or-map, All-cons, All-nil, same_Some, flat_map, heavy, family_union, indicator}
+use Rattle.mat_facts.proofs.Common.{multiplicity, all_below, intersection, is_member, minus, IsSet, weight_at, Weight, no_members, IsRising-all_below, IsSet-all_below, IsSet-subset, only_member, IsSet-those_below, intersection-left, intersection-right, IsBase, IsLoop, IsMatroid, rank}
+use Rattle.mat_facts.proofs.Common.{IsBase-maximal, IsMaximal-base, maximal_in, rank-maximal, level_at, IsLevelCut, part_at, ranks_sum, test_at, weighs, AreBases, IsRightCovering, IsRightPacking, packing_is_most, Tree, is_independent, Instance, list, IsValid, Certificate, union_of, pack_any, pack}
+use Rattle.mat_facts.proofs.Common.{cover_never, cover, LevelLine, level_of, IsRight, IsRightUnionAnswer, AllowsAtMost, Fact, allowed, at_most, full, in_parts, Holds, level_facts, level_most_facts, BoundsLevel, count_of_first}
 use Rattle.std.specs.List.{All, Contains}
-use Rattle.std.specs.Prelude.{flat_map}
-use Rattle.mat_sets.specs.FallingWeights.{heavy}
-use Rattle.mat_sets.specs.Families.{family_union, indicator, multiplicity}
-use Rattle.mat_sets.specs.Sets.{all_below, intersection, is_member, minus, IsSet}
-use Rattle.mat_sets.specs.Weights.{weight_at}
-use Rattle.mat_sets.specs.declared.weight.Weight.{Weight}
-use Rattle.mat_sets.proofs.DisjointSets.{no_members}
-use Rattle.mat_sets.proofs.Ground.{IsRising-all_below, IsSet-all_below, IsSet-subset}
-use Rattle.mat_sets.proofs.Members.{only_member}
-use Rattle.mat_sets.proofs.Search.{IsSet-those_below}
-use Rattle.mat_sets.proofs.Subsets.{intersection-left, intersection-right}
-use Rattle.mat_laws.specs.Matroids.{IsBase, IsLoop, IsMatroid}
-use Rattle.mat_laws.specs.Ranks.{rank}
-use Rattle.mat_laws.proofs.Maximal.{IsBase-maximal, IsMaximal-base}
-use Rattle.mat_laws.proofs.RankLaws.{maximal_in, rank-maximal}
-use Rattle.mat_union.specs.RightUnions.{level_at, IsLevelCut}
-use Rattle.mat_union.specs.Unions.{part_at, ranks_sum, test_at}
 use Rattle.mat_union.specs.declared.best.Level.{Level}
-use Rattle.mat_union.proofs.Dominated.{weighs}
-use Rattle.mat_packing.specs.Packings.{AreBases, IsRightCovering, IsRightPacking}
-use Rattle.mat_packing.proofs.Copies.{packing_is_most}
-use Rattle.mat_any.specs.Trees.{Tree, is_independent}
-use Rattle.mat_problem.specs.Instances.{Instance, list}
-use Rattle.mat_problem.specs.Validity.{IsValid}
-use Rattle.mat_cert.specs.Certificates.{Certificate, union_of, pack_any, pack, cover_never, cover}
-use Rattle.mat_cert.specs.declared.answer.LevelLine.{LevelLine}
-use Rattle.mat_right.specs.Right.{level_of, IsRight, IsRightUnionAnswer}
-use Rattle.mat_facts.specs.Allowances.{AllowsAtMost}
-use Rattle.mat_facts.specs.Facts.{Fact, allowed, at_most, full, in_parts}
-use Rattle.mat_facts.specs.Holding.{Holds}
-use Rattle.mat_facts.specs.Reasons.{level_facts, level_most_facts}
-use Rattle.mat_facts.specs.Sufficing.{BoundsLevel}
-use Rattle.mat_facts.specs.Terms.{count_of_first}
 use Rattle.mat_facts.proofs.AllowedCounts.{count_front}
 use Rattle.mat_facts.proofs.GivenBounds.{allows_rank}
 use Rattle.mat_facts.proofs.ListedFacts.{all_in_all, all_one, all_three, all_two, stands_in_all, stands_later}

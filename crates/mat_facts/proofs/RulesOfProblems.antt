@@ -1,20 +1,11 @@
 -- The rules of a valid problem are matroids on its elements, and there is at least one.
-use Rattle.std.proofs.Common.{◌≡◌, ◌<◌, ℕ, zero, suc, Bool, true, false, List, [], ◌∷◌, length, map, get_or, sym, subst, arith}
-use Rattle.std.proofs.lemmas.List.{length-map, get_or-map}
-use Rattle.mat_sets.specs.Graphs.{ends_of}
-use Rattle.mat_sets.specs.Sets.{IsSet}
-use Rattle.mat_laws.specs.Matroids.{IsMatroid}
+use Rattle.mat_facts.proofs.Common.{◌≡◌, ◌<◌, ℕ, zero, suc, Bool, true, false, List, [], ◌∷◌, length, map, get_or, sym, subst, arith, length-map, get_or-map, ends_of, IsSet, IsMatroid, test_at, AreMatroids, column_at, row_at, Tree, element_count, is_independent, IsSound, Instance, pair, list, graph}
+use Rattle.mat_facts.proofs.Common.{rooted, coloured, table, IsValid, AllAllow, rule_count, rules_of, size_of}
 use Rattle.mat_graphic.specs.ForestLaws.{graphic_laws}
-use Rattle.mat_union.specs.Unions.{test_at, AreMatroids}
 use Rattle.mat_arbor.proofs.Splits.{entering_once_laws}
-use Rattle.mat_fronts.specs.Assignments.{column_at, row_at}
 use Rattle.mat_fronts.proofs.OnceEach.{once_laws}
-use Rattle.mat_any.specs.Trees.{Tree, element_count, is_independent, IsSound}
 use Rattle.mat_any.specs.TreeLaws.{tree_laws}
-use Rattle.mat_problem.specs.Instances.{Instance, pair, list, graph, rooted, coloured, table}
-use Rattle.mat_problem.specs.Validity.{IsValid}
 use Rattle.mat_problem.proofs.SoundProblems.{IsSoundInstance-valid}
-use Rattle.mat_facts.specs.Problems.{AllAllow, rule_count, rules_of, size_of}
 
 of_one : {n : ℕ} {p : List ℕ → Bool} → IsMatroid n p → AreMatroids n (p ∷ [])
 of_one {n} {p} lp = record { each = each }

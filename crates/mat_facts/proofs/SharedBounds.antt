@@ -1,14 +1,7 @@
 -- Shares and terms bound what a set weighs that each of some rules allows. The terms are those of one size: a smaller set takes the first of
 -- them, and a larger one takes the last once more for each further element.
-use Rattle.std.proofs.Common.{◌≡◌, ◌<◌, ◌≤◌, ◌-◌, ℕ, Bool, true, false, cond, ltb, List, length, refl, sym, ap, ◌∙◌, subst, arith}
-use Rattle.std.proofs.lemmas.Bool.{lt-ltb, ltb-false, ltb-true, false_from_ne_true}
-use Rattle.mat_sets.specs.Sets.{IsSet}
-use Rattle.mat_sets.specs.Weights.{◌≼◌, weight, weight_at, weight_sum, zero_weight}
-use Rattle.mat_sets.specs.declared.weight.Weight.{Weight}
-use Rattle.mat_sets.proofs.Ground.{below_member}
-use Rattle.mat_sets.proofs.WeightOrder.{at_most_same, at_most_trans}
-use Rattle.mat_sets.proofs.WeightSums.{weight_sum-same}
-use Rattle.mat_facts.specs.Terms.{count_above, list_at, step_at, sum_of_first}
+use Rattle.mat_facts.proofs.Common.{◌≡◌, ◌<◌, ◌≤◌, ◌-◌, ℕ, Bool, true, false, cond, ltb, List, length, refl, sym, ap, ◌∙◌, subst, arith, lt-ltb, ltb-false, ltb-true, false_from_ne_true, IsSet, ◌≼◌, weight, weight_at, weight_sum, zero_weight, Weight, below_member, at_most_same, at_most_trans}
+use Rattle.mat_facts.proofs.Common.{weight_sum-same, count_above, list_at, step_at, sum_of_first}
 use Rattle.mat_facts.proofs.BoundedSums.{weighs_at_most}
 use Rattle.mat_facts.proofs.TermSums.{sum_falls, sum_rises, sums_agree, sums_exchange, sums_grow, weight_of_sums}
 

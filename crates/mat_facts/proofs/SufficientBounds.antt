@@ -1,20 +1,7 @@
 -- What follows where facts hold that bound what sets weigh that all rules allow, and how many members they have.
-use Rattle.std.proofs.Common.{◌≡◌, ◌<◌, ◌≤◌, ◌-◌, ℕ, suc, ◌⊎◌, List, [], ◌∷◌, length, get_or, inl, inr, ⊎_elim, arith}
-use Rattle.std.proofs.lemmas.Bool.{cases_eq, cases_lt}
-use Rattle.std.proofs.lemmas.List.Elements.{All-contains}
+use Rattle.mat_facts.proofs.Common.{◌≡◌, ◌<◌, ◌≤◌, ◌-◌, ℕ, suc, ◌⊎◌, List, [], ◌∷◌, length, get_or, inl, inr, ⊎_elim, arith, cases_eq, cases_lt, All-contains, ◌≼◌, weight, Weight, IsSet-length, base_largest, Instance, IsValid, Certificate, Fact, at_most, shared, few_above, full, Holds, AllAllow}
+use Rattle.mat_facts.proofs.Common.{rule_at, rule_count, rules_of, size_of, weights_of, BoundsEachSize, BoundsLarger, BoundsSize, BoundsSmaller, IsNothing, ShowsNoLarger, list_at}
 use Rattle.std.specs.List.{All, Contains}
-use Rattle.mat_sets.specs.Weights.{◌≼◌, weight}
-use Rattle.mat_sets.specs.declared.weight.Weight.{Weight}
-use Rattle.mat_sets.proofs.Ground.{IsSet-length}
-use Rattle.mat_laws.proofs.Maximal.{base_largest}
-use Rattle.mat_problem.specs.Instances.{Instance}
-use Rattle.mat_problem.specs.Validity.{IsValid}
-use Rattle.mat_cert.specs.Certificates.{Certificate}
-use Rattle.mat_facts.specs.Facts.{Fact, at_most, shared, few_above, full}
-use Rattle.mat_facts.specs.Holding.{Holds}
-use Rattle.mat_facts.specs.Problems.{AllAllow, rule_at, rule_count, rules_of, size_of, weights_of}
-use Rattle.mat_facts.specs.Sufficing.{BoundsEachSize, BoundsLarger, BoundsSize, BoundsSmaller, IsNothing, ShowsNoLarger}
-use Rattle.mat_facts.specs.Terms.{list_at}
 use Rattle.mat_facts.proofs.AllowedCounts.{divided_few}
 use Rattle.mat_facts.proofs.RulesOfProblems.{allowed_set, rules_are_matroids, some_rule}
 use Rattle.mat_facts.proofs.SharedBounds.{larger_bounded, size_bounded, smaller_bounded}

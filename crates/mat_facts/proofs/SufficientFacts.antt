@@ -1,16 +1,7 @@
 -- Facts that hold and suffice show that an answer is best: form by form.
-use Rattle.std.proofs.Common.{List, [], ◌∷◌, sym, subst}
+use Rattle.mat_facts.proofs.Common.{List, [], ◌∷◌, sym, subst, is_independent, Instance, pair, list, graph, rooted, coloured, table, IsValid, IsCover, Certificate, intersect, best, union_of, pack_any, pack, cover_never, cover, trees, trees_none, arbor, unreached, disjoint, disjoint_none, rainbow}
+use Rattle.mat_facts.proofs.Common.{assign, AreFewestSets, AreMostBases, IsOptimal, Fact, allowed, Holds, Suffice}
 use Rattle.std.specs.List.{All}
-use Rattle.mat_any.specs.Trees.{is_independent}
-use Rattle.mat_problem.specs.Instances.{Instance, pair, list, graph, rooted, coloured, table}
-use Rattle.mat_problem.specs.Validity.{IsValid}
-use Rattle.mat_packing.specs.Packings.{IsCover}
-use Rattle.mat_cert.specs.Certificates.{Certificate, intersect, best, union_of, pack_any, pack, cover_never, cover, trees, trees_none}
-use Rattle.mat_cert.specs.Certificates.{arbor, unreached, disjoint, disjoint_none, rainbow, assign}
-use Rattle.mat_check.specs.Optimal.{AreFewestSets, AreMostBases, IsOptimal}
-use Rattle.mat_facts.specs.Facts.{Fact, allowed}
-use Rattle.mat_facts.specs.Holding.{Holds}
-use Rattle.mat_facts.specs.Sufficing.{Suffice}
 use Rattle.mat_facts.proofs.SufficientBounds.{said}
 use Rattle.mat_facts.proofs.SufficientGraphs.{least_shown, no_arborescence, no_arborescences, no_trees}
 use Rattle.mat_facts.proofs.SufficientLadders.{assignment_shown, best_shown, intersection_shown, rainbow_shown}

@@ -1,33 +1,11 @@
 -- Facts suffice for answers on graphs: that there are no such trees or arborescences, and that an arborescence costs least.
-use Rattle.std.proofs.Common.{◌≡◌, ◌<◌, ◌-◌, ℕ, true, false, ◌⊎◌, List, length, get_or, ap, ◌∙◌, arith}
-use Rattle.std.proofs.lemmas.Bool.{and_from, false_from_ne_true, lt-ltb}
-use Rattle.std.proofs.lemmas.Int.{ints}
+use Rattle.mat_facts.proofs.Common.{◌≡◌, ◌<◌, ◌-◌, ℕ, true, false, ◌⊎◌, List, length, get_or, ap, ◌∙◌, arith, and_from, false_from_ne_true, lt-ltb, ints, ends_of, entering, enters, IsSpanningArborescence, all_below, is_member, negated, Weight, is_member-entering, unentered_has_none}
+use Rattle.mat_facts.proofs.Common.{is_member-all_below, some_from_member, pairs, is_graphic, AreTrees, is_entering_once, common_from_arborescence, AreDisjointArborescences, missing_colours_exclude, graph, rooted, coloured, IsValid, Certificate, arbor, IsLeastArborescence, coloured_is_graph}
+use Rattle.mat_facts.proofs.Common.{graph_is_graph, rooted_is_graph, root_is_below, Fact, allowed, groups, between, falls_apart, without_root, entered_by, AreGroups, Holds, BoundsSize, IsNothing, ShowsNoArborescences, ShowsNoRainbowTree, ShowsNoTrees}
 use Rattle.std.specs.List.{All, Contains}
-use Rattle.mat_sets.specs.Graphs.{ends_of, entering, enters, IsSpanningArborescence}
-use Rattle.mat_sets.specs.Sets.{all_below, is_member}
-use Rattle.mat_sets.specs.Weights.{negated}
-use Rattle.mat_sets.specs.declared.weight.Weight.{Weight}
-use Rattle.mat_sets.proofs.Crossings.{is_member-entering, unentered_has_none}
-use Rattle.mat_sets.proofs.Ground.{is_member-all_below}
-use Rattle.mat_sets.proofs.Members.{some_from_member}
-use Rattle.mat_sets.proofs.WeightOrder.{pairs}
-use Rattle.mat_graphic.specs.Forests.{is_graphic}
-use Rattle.mat_packing.specs.Trees.{AreTrees}
 use Rattle.mat_packing.proofs.Partitions.{few_trees}
-use Rattle.mat_arbor.specs.Heads.{is_entering_once}
-use Rattle.mat_arbor.proofs.LeastTrees.{common_from_arborescence}
-use Rattle.mat_branch.specs.Arborescences.{AreDisjointArborescences}
 use Rattle.mat_branch.proofs.Packing.{seldom_entered_has_none}
 use Rattle.mat_fronts.specs.Rainbow.{IsRainbowTree}
-use Rattle.mat_fronts.proofs.Ladders.{missing_colours_exclude}
-use Rattle.mat_problem.specs.Instances.{graph, rooted, coloured}
-use Rattle.mat_problem.specs.Validity.{IsValid}
-use Rattle.mat_cert.specs.Certificates.{Certificate, arbor}
-use Rattle.mat_check.specs.Optimal.{IsLeastArborescence}
-use Rattle.mat_check.proofs.ValidGraphs.{coloured_is_graph, graph_is_graph, rooted_is_graph, root_is_below}
-use Rattle.mat_facts.specs.Facts.{Fact, allowed, groups, between, falls_apart, without_root, entered_by}
-use Rattle.mat_facts.specs.Holding.{AreGroups, Holds}
-use Rattle.mat_facts.specs.Sufficing.{BoundsSize, IsNothing, ShowsNoArborescences, ShowsNoRainbowTree, ShowsNoTrees}
 use Rattle.mat_facts.proofs.NegatedCosts.{negated_weight}
 use Rattle.mat_facts.proofs.RulesOfProblems.{both_allow}
 use Rattle.mat_facts.proofs.SufficientBounds.{said, size_is_bounded}

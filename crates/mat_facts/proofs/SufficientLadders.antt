@@ -1,29 +1,8 @@
 -- Facts suffice for an answer with a set of each size: each set is a heaviest one of its size, and none is larger.
-use Rattle.std.proofs.Common.{◌≡◌, ℕ, Bool, true, List, [], ◌∷◌, length, map, get_or, Option, Some, slice_get, ap, ◌∙◌, subst, arith}
-use Rattle.std.proofs.lemmas.List.{length-map}
-use Rattle.std.proofs.lemmas.Option.{slice_get-map}
+use Rattle.mat_facts.proofs.Common.{◌≡◌, ℕ, Bool, true, List, [], ◌∷◌, length, map, get_or, Option, Some, slice_get, ap, ◌∙◌, subst, arith, length-map, slice_get-map, option_map, ends_of, ◌≼◌, weight, Weight, is_graphic, Tree, is_independent, column_at, row_at, is_once, tree_is_common, Instance}
+use Rattle.mat_facts.proofs.Common.{pair, list, coloured, table, IsValid, Certificate, intersect, best, rainbow, assign, PlainRung, PricedRung, IsOptimalLadder, AreOptimalRungs, IsOptimalRainbow, coloured_is_coloured, Fact, allowed, AreAllowedRungs, IsAllowedRung, plain_rung, Holds, AllAllow}
+use Rattle.mat_facts.proofs.Common.{weights_of, ShowsEachRung}
 use Rattle.std.specs.List.{All}
-use Rattle.std.specs.Prelude.{option_map}
-use Rattle.mat_sets.specs.Graphs.{ends_of}
-use Rattle.mat_sets.specs.Weights.{◌≼◌, weight}
-use Rattle.mat_sets.specs.declared.weight.Weight.{Weight}
-use Rattle.mat_graphic.specs.Forests.{is_graphic}
-use Rattle.mat_any.specs.Trees.{Tree, is_independent}
-use Rattle.mat_fronts.specs.Assignments.{column_at, row_at}
-use Rattle.mat_fronts.specs.Once.{is_once}
-use Rattle.mat_fronts.proofs.Ladders.{tree_is_common}
-use Rattle.mat_problem.specs.Instances.{Instance, pair, list, coloured, table}
-use Rattle.mat_problem.specs.Validity.{IsValid}
-use Rattle.mat_cert.specs.Certificates.{Certificate, intersect, best, rainbow, assign}
-use Rattle.mat_cert.specs.declared.answer.PlainRung.{PlainRung}
-use Rattle.mat_cert.specs.declared.answer.PricedRung.{PricedRung}
-use Rattle.mat_check.specs.Optimal.{IsOptimalLadder, AreOptimalRungs, IsOptimalRainbow}
-use Rattle.mat_check.proofs.ValidGraphs.{coloured_is_coloured}
-use Rattle.mat_facts.specs.Facts.{Fact, allowed}
-use Rattle.mat_facts.specs.Answers.{AreAllowedRungs, IsAllowedRung, plain_rung}
-use Rattle.mat_facts.specs.Holding.{Holds}
-use Rattle.mat_facts.specs.Problems.{AllAllow, weights_of}
-use Rattle.mat_facts.specs.Sufficing.{ShowsEachRung}
 use Rattle.mat_facts.proofs.RulesOfProblems.{both_allow, one_allows}
 use Rattle.mat_facts.proofs.SufficientBounds.{none_is_larger, said, size_is_bounded}
 

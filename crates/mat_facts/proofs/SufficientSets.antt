@@ -1,32 +1,9 @@
 -- Facts suffice for unions, packings and coverings: what the rules allow bounds the ranks of their cuts.
-use Rattle.std.proofs.Common.{◌≡◌, ◌<◌, ◌≤◌, ◌-◌, ◌+◌, ◌*◌, ℕ, Bool, true, ◌⊎◌, List, [], ◌∷◌, length, map, get_or, inl, inr, refl, ap, ◌∙◌, arith}
-use Rattle.std.proofs.lemmas.Bool.{false_from_ne_true}
+use Rattle.mat_facts.proofs.Common.{◌≡◌, ◌<◌, ◌≤◌, ◌-◌, ◌+◌, ◌*◌, ℕ, Bool, true, ◌⊎◌, List, [], ◌∷◌, length, map, get_or, inl, inr, refl, ap, ◌∙◌, arith, false_from_ne_true, all_below, intersection, is_member, minus, Weight, intersection-subset, filter_none, IsRising-all_below, IsSet-nil}
+use Rattle.mat_facts.proofs.Common.{IsSubset-refl, IsBase, IsMatroid, rank, IsMaximal-base, rank-maximal, IsBestUnion, level_at, test_at, AreParts, AreBases, IsCover, covering_is_least, loop_has_no_cover, packing_is_most, rank_none, Tree, is_independent, list, IsValid, Certificate, union_of}
+use Rattle.mat_facts.proofs.Common.{LevelLine, AreFewestSets, AreMostBases, AllowsAtMost, Fact, allowed, at_most, full, in_parts, Holds, ShowsNoFewerSets, ShowsNoMoreBases, ShowsUnion}
 use Rattle.std.specs.List.{All, Contains}
-use Rattle.mat_sets.specs.Sets.{all_below, intersection, is_member, minus}
-use Rattle.mat_sets.specs.declared.weight.Weight.{Weight}
-use Rattle.mat_sets.proofs.Equalities.{intersection-subset}
-use Rattle.mat_sets.proofs.Filters.{filter_none}
-use Rattle.mat_sets.proofs.Ground.{IsRising-all_below, IsSet-nil}
-use Rattle.mat_sets.proofs.Subsets.{IsSubset-refl}
-use Rattle.mat_laws.specs.Matroids.{IsBase, IsMatroid}
-use Rattle.mat_laws.specs.Ranks.{rank}
-use Rattle.mat_laws.proofs.Maximal.{IsMaximal-base}
-use Rattle.mat_laws.proofs.RankLaws.{rank-maximal}
-use Rattle.mat_union.specs.RightUnions.{IsBestUnion, level_at}
-use Rattle.mat_union.specs.Unions.{test_at, AreParts}
 use Rattle.mat_union.proofs.LevelsShow.{right_is_best}
-use Rattle.mat_packing.specs.Packings.{AreBases, IsCover}
-use Rattle.mat_packing.proofs.Copies.{covering_is_least, loop_has_no_cover, packing_is_most, rank_none}
-use Rattle.mat_any.specs.Trees.{Tree, is_independent}
-use Rattle.mat_problem.specs.Instances.{list}
-use Rattle.mat_problem.specs.Validity.{IsValid}
-use Rattle.mat_cert.specs.Certificates.{Certificate, union_of}
-use Rattle.mat_cert.specs.declared.answer.LevelLine.{LevelLine}
-use Rattle.mat_check.specs.Optimal.{AreFewestSets, AreMostBases}
-use Rattle.mat_facts.specs.Allowances.{AllowsAtMost}
-use Rattle.mat_facts.specs.Facts.{Fact, allowed, at_most, full, in_parts}
-use Rattle.mat_facts.specs.Holding.{Holds}
-use Rattle.mat_facts.specs.Sufficing.{ShowsNoFewerSets, ShowsNoMoreBases, ShowsUnion}
 use Rattle.mat_facts.proofs.AllowedCounts.{level_cut, rank_at_most}
 use Rattle.mat_facts.proofs.RulesOfProblems.{rules_are_matroids, some_rule}
 use Rattle.mat_facts.proofs.SufficientBounds.{said}

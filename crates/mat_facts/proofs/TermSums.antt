@@ -1,10 +1,5 @@
 -- Sums of the first weights of a row: they grow with their terms, and sums of sums may be added up in either order.
-use Rattle.std.proofs.Common.{◌≡◌, ◌<◌, ◌≤◌, ℕ, zero, suc, ◌+◌, List, [], ◌∷◌, refl, sym, ap, arith}
-use Rattle.std.proofs.lemmas.Int.{ints}
-use Rattle.mat_sets.specs.Weights.{◌⊕◌, ◌≼◌, weight_sum, zero_weight}
-use Rattle.mat_sets.specs.declared.weight.Weight.{Weight}
-use Rattle.mat_sets.proofs.WeightOrder.{at_most_same, pairs}
-use Rattle.mat_facts.specs.Terms.{sum_of_first}
+use Rattle.mat_facts.proofs.Common.{◌≡◌, ◌<◌, ◌≤◌, ℕ, zero, suc, ◌+◌, List, [], ◌∷◌, refl, sym, ap, arith, ints, ◌⊕◌, ◌≼◌, weight_sum, zero_weight, Weight, at_most_same, pairs, sum_of_first}
 
 -- larger terms have a larger sum
 pub sums_grow : (f g : ℕ → Weight) (m : ℕ) → ((i : ℕ) → i < m → f i ≼ g i) → sum_of_first f m ≼ sum_of_first g m

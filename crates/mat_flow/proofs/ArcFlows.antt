@@ -1,25 +1,12 @@
 -- What the loops of the search for paths that share no arc keep.
-use Rattle.std.proofs.Common.{◌≡◌, ℕ, zero, suc, ◌+◌, ◌<◌, Bool, true, false, not, ◌&&◌, ◌||◌, eqb, ltb, List, [], ◌∷◌, length, get_or, replicate, set, take, Option, Some, None, inl, inr, refl, sym, ap, ◌∙◌, subst, arith, length-set}
+use Rattle.mat_flow.proofs.Common.{◌≡◌, ℕ, zero, suc, ◌+◌, ◌<◌, Bool, true, false, not, ◌&&◌, ◌||◌, eqb, ltb, List, [], ◌∷◌, length, get_or, replicate, set, take, Option, Some, None, inl, inr, refl, sym, ap, ◌∙◌, subst, arith, length-set, cases_eq, lt-ltb, ltb-true, get_or-replicate}
+use Rattle.mat_flow.proofs.Common.{length-replicate, ends_of, IsGraph, all_below, is_member, with_one, without_one, AllBelow, IsRising, IsSet, IsReachedSet, AreArcPaths, IsArcCut, is_member-all_below, IsRising-all_below, IsSet-without_one, is_member-without_one, IsRising-nil, is_member-take_more}
+use Rattle.mat_flow.proofs.Common.{row_at, arcs_from, arcs_to, is_head_there, is_passed, line_arcs, AreLeaving, IsLeftOut, entry_at, is_member_there, leads_to, residual_arc, residual_goal, starts_in, IsLinkTable, AreTrails, IsReversed, is_member-inserted, or_none, or_assoc}
 use Rattle.std.proofs.Math.Numerals.{add-one}
-use Rattle.std.proofs.lemmas.Bool.{cases_eq, lt-ltb, ltb-true}
-use Rattle.std.proofs.lemmas.List.{get_or-replicate, length-replicate}
-use Rattle.mat_sets.specs.Graphs.{ends_of, IsGraph}
-use Rattle.mat_sets.specs.Sets.{all_below, is_member, with_one, without_one, AllBelow, IsRising, IsSet}
-use Rattle.mat_sets.specs.Walks.{IsReachedSet}
-use Rattle.mat_flow.specs.ArcPaths.{AreArcPaths, IsArcCut}
-use Rattle.mat_sets.proofs.Ground.{is_member-all_below, IsRising-all_below, IsSet-without_one}
-use Rattle.mat_sets.proofs.Members.{is_member-without_one, IsRising-nil}
-use Rattle.mat_sets.proofs.Steps.{is_member-take_more}
-use Rattle.mat_sets.specs.Rows.{row_at}
-use Rattle.mat_flow.specs.LineGraphs.{arcs_from, arcs_to, is_head_there, is_passed, line_arcs, AreLeaving, IsLeftOut}
-use Rattle.mat_flow.specs.LinkTables.{entry_at, is_member_there, leads_to, residual_arc, residual_goal, starts_in, IsLinkTable}
-use Rattle.mat_flow.specs.Trails.{AreTrails, IsReversed}
 use Rattle.mat_flow.proofs.DisjointPaths.{AreDisjointPaths-trails}
 use Rattle.mat_flow.proofs.LineGraphs.{has_arc-line, is_member-arcs_from, is_member-arcs_to, starts_among-le, AreArcPaths-line, IsArcCut-reached}
 use Rattle.mat_flow.proofs.PathsOfTables.{starts_of_all}
 use Rattle.mat_flow.proofs.LinkTables.{none_is_not_some, AreOwn, IsLinkTable-own}
-use Rattle.mat_sets.proofs.Rows.{is_member-inserted}
-use Rattle.mat_sets.proofs.Truths.{or_none, or_assoc}
 
 -- ---- the rows of live arcs
 

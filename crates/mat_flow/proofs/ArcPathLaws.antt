@@ -1,14 +1,7 @@
 -- Paths that share no arc are at most as many as the live arcs that enter a vertex set with their end and without their start.
-use Rattle.std.proofs.Common.{◌≡◌, ℕ, ◌≤◌, ◌↔◌, true, false, List, [], length, refl, subst, arith}
-use Rattle.std.proofs.lemmas.Bool.{false≢true}
-use Rattle.mat_sets.specs.Sets.{is_member, IsRising}
-use Rattle.mat_sets.proofs.DisjointLists.{AreDisjoint-distinct}
+use Rattle.mat_flow.proofs.Common.{◌≡◌, ℕ, ◌≤◌, ◌↔◌, true, false, List, [], length, refl, subst, arith, false≢true, is_member, IsRising, AreDisjoint-distinct, AreArcPaths, IsArcCut, IsArcPath, Paths, Cut, entering, at_most_entering, walk_enters, Comes}
 use Rattle.mat_flow.specs.ArcAnswers.{is_arc_cut, HasNoArcPaths, IsArcAnswer}
-use Rattle.mat_flow.specs.ArcPaths.{AreArcPaths, IsArcCut, IsArcPath}
 use Rattle.mat_flow.specs.declared.arc_flow.ArcAnswer.{ArcAnswer}
-use Rattle.mat_flow.specs.declared.arc_flow.ArcAnswer.TheVariants.{Paths, Cut}
-use Rattle.mat_sets.specs.Graphs.{entering}
-use Rattle.mat_sets.proofs.Crossings.{at_most_entering, walk_enters, Comes}
 
 module _ (ends : ℕ → ℕ × ℕ) (live : List ℕ) (from to want : ℕ) where
   path_comes : (cut path : List ℕ) → is_member from cut ≡ false → is_member to cut ≡ true → IsArcPath ends live from to path → Comes ends live cut path

@@ -1,14 +1,8 @@
 -- A walk of the residual graph moves the entries of a table on: each vertex of the walk gets before it what led to it, and what was before
 -- the last one is before none. The first one gets none before it, where it is a source, and there is one path more; or it gets the last
 -- vertex of a path, and then what was before the last one takes the place of that as an end.
-use Rattle.std.proofs.Common.{◌≡◌, ℕ, zero, suc, ◌+◌, ◌<◌, ◌≢◌, Bool, true, false, List, length, get_or, Option, Some, None, ◌⊎◌, inl, inr, refl, sym, ap, ◌∙◌, subst, arith}
-use Rattle.std.proofs.lemmas.Bool.{both_ways, cases_Bool, cases_eq, cases_lt}
-use Rattle.mat_sets.specs.Sets.{is_member}
-use Rattle.mat_sets.specs.Walks.{IsShortestWalk, IsWalk}
-use Rattle.mat_sets.proofs.ListParts.{same_place}
-use Rattle.mat_sets.proofs.Members.{is_member-get_or, place_of_member}
-use Rattle.mat_sets.proofs.Reach.{walk_differs}
-use Rattle.mat_flow.specs.LinkTables.{entry_at, entry_before, is_member_there, leads_to, one_if_none, residual_arc, residual_goal, starts_in, IsLinkTable, IsShifted}
+use Rattle.mat_flow.proofs.Common.{◌≡◌, ℕ, zero, suc, ◌+◌, ◌<◌, ◌≢◌, Bool, true, false, List, length, get_or, Option, Some, None, ◌⊎◌, inl, inr, refl, sym, ap, ◌∙◌, subst, arith, both_ways, cases_Bool, cases_eq, cases_lt, is_member, IsShortestWalk, IsWalk, same_place, is_member-get_or}
+use Rattle.mat_flow.proofs.Common.{place_of_member, walk_differs, entry_at, entry_before, is_member_there, leads_to, one_if_none, residual_arc, residual_goal, starts_in, IsLinkTable, IsShifted}
 use Rattle.mat_flow.proofs.LinkTables.{none_is_not_some, some_is_one}
 
 -- what comes to the first vertex of a walk: none, where it is a source, or a vertex that is before none and leads there

@@ -1,18 +1,10 @@
 -- The paths from those of some vertices that have none before them, one after the other, and that they are disjoint paths from sources to
 -- targets.
-use Rattle.std.proofs.Common.{◌≡◌, ℕ, zero, suc, ◌+◌, ◌<◌, ◌≢◌, Bool, true, false, ◌||◌, eqb, List, [], ◌∷◌, ◌++◌, length, get_or, take, Option, Some, None, is_some, inl, inr, refl, sym, ap, ◌∙◌, subst, arith, append_assoc, append-nil}
+use Rattle.mat_flow.proofs.Common.{◌≡◌, ℕ, zero, suc, ◌+◌, ◌<◌, ◌≢◌, Bool, true, false, ◌||◌, eqb, List, [], ◌∷◌, ◌++◌, length, get_or, take, Option, Some, None, is_some, inl, inr, refl, sym, ap, ◌∙◌, subst, arith, append_assoc, append-nil, both_ways, eqb-true, false_from_ne_true, or_cases, or_left}
+use Rattle.mat_flow.proofs.Common.{length_push, All-head, All-push, All-tail, All-weaker, is_member, AreDistinct, IsRising, AreDistinct-append, AreDistinct-index, is_member-append, is_member-take_more, is_member-take_next, entry_at, leads_to, one_if_none, starts_among, IsLinkTable, first_of}
+use Rattle.mat_flow.proofs.Common.{has_arc, last_of, AreDisjointPaths, IsPath, IsPathBetween, AreTrails, IsReversed, IsTrail, IsTrailAmong}
 use Rattle.std.proofs.Math.Numerals.{add-one}
 use Rattle.std.specs.List.{All, concat}
-use Rattle.std.proofs.lemmas.Bool.{both_ways, eqb-true, false_from_ne_true, or_cases, or_left}
-use Rattle.std.proofs.lemmas.List.{length_push}
-use Rattle.std.proofs.lemmas.List.Elements.{All-head, All-push, All-tail, All-weaker}
-use Rattle.mat_sets.specs.Sets.{is_member, AreDistinct, IsRising}
-use Rattle.mat_sets.proofs.ListParts.{AreDistinct-append, AreDistinct-index}
-use Rattle.mat_sets.proofs.Members.{is_member-append}
-use Rattle.mat_sets.proofs.Steps.{is_member-take_more, is_member-take_next}
-use Rattle.mat_flow.specs.LinkTables.{entry_at, leads_to, one_if_none, starts_among, IsLinkTable}
-use Rattle.mat_flow.specs.Paths.{first_of, has_arc, last_of, AreDisjointPaths, IsPath, IsPathBetween}
-use Rattle.mat_flow.specs.Trails.{AreTrails, IsReversed, IsTrail, IsTrailAmong}
 use Rattle.mat_flow.proofs.LinkTables.{entry_inside}
 use Rattle.mat_flow.proofs.TrailReading.{trail_differs, trails_meet}
 

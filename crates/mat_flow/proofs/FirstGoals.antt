@@ -1,21 +1,12 @@
 -- The search that ends at the first goal that it meets. What was found is told by the number of steps to it, which falls along the trace back;
 -- where no goal is met, what was found is closed among the live vertices.
-use Rattle.std.proofs.Common.{◌≡◌, ℕ, zero, suc, ◌+◌, ◌-◌, ◌<◌, ◌≤◌, Bool, true, false, not, ◌&&◌, ◌||◌, eqb, ltb, cond, List, [], ◌∷◌, ◌++◌, length, get_or, set, take, is_some, Option, Some, None, ◌⊎◌, inl, inr, refl, sym, ap, ◌∙◌, subst, arith}
-use Rattle.std.proofs.lemmas.Bool.{and_from, and_parts, both_ways, cases_Bool, cases_lt, eq-eqb, eqb-true, false_from_ne_true, false≢true, lt-ltb, or_cases, or_left, or_right, not-true}
-use Rattle.std.proofs.lemmas.List.{get_or_default, length_push}
+use Rattle.mat_flow.proofs.Common.{◌≡◌, ℕ, zero, suc, ◌+◌, ◌-◌, ◌<◌, ◌≤◌, Bool, true, false, not, ◌&&◌, ◌||◌, eqb, ltb, cond, List, [], ◌∷◌, ◌++◌, length, get_or, set, take, is_some, Option, Some, None, ◌⊎◌, inl, inr, refl, sym, ap, ◌∙◌, subst, arith, and_from, and_parts, both_ways, cases_Bool}
+use Rattle.mat_flow.proofs.Common.{cases_lt, eq-eqb, eqb-true, false_from_ne_true, false≢true, lt-ltb, or_cases, or_left, or_right, not-true, get_or_default, length_push, IsFirstFrom, all_below, is_member, with_one, without_one, AreDistinct, IsRising, IsReachedSet, below_member, is_member-all_below}
+use Rattle.mat_flow.proofs.Common.{AllBelow-from_members, length-distinct_below, is_member-push, AreDistinct-append, AreDistinct-index, is_member-get_or, is_member-with_one, place_of_member, same_members, reached_by_induction, reached_set_exists, AreTaken-more, AreTaken-rest, is_member-take_more}
+use Rattle.mat_flow.proofs.Common.{same_truth, IsChain, IsFollowed, IsFreeWalk, IsShut, IsSpent, IsTake, IsTraced}
 use Rattle.std.proofs.lemmas.Option.{none-some, same_Some}
 use Rattle.mat_sets.specs.Rounds.{AreTaken}
-use Rattle.mat_sets.specs.Search.{IsFirstFrom}
-use Rattle.mat_sets.specs.Sets.{all_below, is_member, with_one, without_one, AreDistinct, IsRising}
-use Rattle.mat_sets.specs.Walks.{IsReachedSet}
-use Rattle.mat_sets.proofs.Ground.{below_member, is_member-all_below, AllBelow-from_members, length-distinct_below}
-use Rattle.mat_sets.proofs.ListParts.{is_member-push, AreDistinct-append, AreDistinct-index}
-use Rattle.mat_sets.proofs.Members.{is_member-get_or, is_member-with_one, place_of_member, same_members}
-use Rattle.mat_sets.proofs.Reach.{reached_by_induction, reached_set_exists}
-use Rattle.mat_sets.proofs.Rounds.{AreTaken-more, AreTaken-rest}
-use Rattle.mat_sets.proofs.Steps.{is_member-take_more}
-use Rattle.mat_sets.proofs.Truths.{same_truth}
-use Rattle.mat_flow.specs.Seeking.{Comes, IsChain, IsFollowed, IsFreeWalk, IsShut, IsSpent, IsTake, IsTraced}
+use Rattle.mat_flow.specs.Seeking.{Comes}
 
 -- ---- the loops over arcs
 

@@ -1,14 +1,8 @@
 -- The reached vertices that are before no reached vertex: the loop takes the vertex before each reached one out, and as none is before two,
 -- each takes out one more, but for those with none before them.
-use Rattle.std.proofs.Common.{◌≡◌, ℕ, zero, suc, ◌+◌, ◌<◌, Bool, true, false, not, ◌||◌, ◌&&◌, eqb, List, [], ◌∷◌, length, get_or, take, Option, Some, None, inl, inr, refl, sym, ap, ◌∙◌, subst, arith, ◌≤◌}
+use Rattle.mat_flow.proofs.Common.{◌≡◌, ℕ, zero, suc, ◌+◌, ◌<◌, Bool, true, false, not, ◌||◌, ◌&&◌, eqb, List, [], ◌∷◌, length, get_or, take, Option, Some, None, inl, inr, refl, sym, ap, ◌∙◌, subst, arith, ◌≤◌, and_from, both_ways, eqb-true, false_from_ne_true, or_cases, or_right, is_member}
+use Rattle.mat_flow.proofs.Common.{IsRising, without_one, length-without_one, is_member-get_or, is_member-without_one, IsRising-without_one, is_member-take_next, or_assoc, or_none, and_all, entry_at, is_before, is_there, one_if_none, starts_among}
 use Rattle.std.proofs.Math.Numerals.{add-one}
-use Rattle.std.proofs.lemmas.Bool.{and_from, both_ways, eqb-true, false_from_ne_true, or_cases, or_right}
-use Rattle.mat_sets.specs.Sets.{is_member, IsRising, without_one}
-use Rattle.mat_sets.proofs.Cardinalities.{length-without_one}
-use Rattle.mat_sets.proofs.Members.{is_member-get_or, is_member-without_one, IsRising-without_one}
-use Rattle.mat_sets.proofs.Steps.{is_member-take_next}
-use Rattle.mat_sets.proofs.Truths.{or_assoc, or_none, and_all}
-use Rattle.mat_flow.specs.LinkTables.{entry_at, is_before, is_there, one_if_none, starts_among}
 use Rattle.mat_flow.proofs.DisjointPaths.{starts_among-more}
 
 -- ---- what is before some vertices

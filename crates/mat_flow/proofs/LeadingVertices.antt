@@ -1,16 +1,8 @@
 -- The vertices from which a walk leads to a goal are found in rounds. A round that puts none in has left none out, and as many rounds as there are
 -- vertices have put all of them in.
-use Rattle.std.proofs.Common.{◌≡◌, ℕ, ◌+◌, ◌<◌, ◌≤◌, Bool, true, false, not, eqb, ltb, List, length, inl, inr, refl, sym, ap, ◌∙◌, subst, arith}
-use Rattle.std.proofs.lemmas.Bool.{and_from, and_parts, both_ways, cases_Bool, cases_eq, eqb-true, false_from_ne_true, false≢true, lt-ltb, ltb-true, not-true, or_cases, or_right}
-use Rattle.mat_sets.specs.Search.{those_below}
-use Rattle.mat_sets.specs.Sets.{is_member, with_one, IsRising}
-use Rattle.mat_sets.specs.Walks.{IsReachedSet, IsShortestWalk}
-use Rattle.mat_sets.proofs.Cardinalities.{length-with_one}
-use Rattle.mat_sets.proofs.Ground.{below_member, length-distinct_below, AllBelow-from_members, AreDistinct-rising}
-use Rattle.mat_sets.proofs.Members.{is_member-with_one, IsRising-with_one}
-use Rattle.mat_sets.proofs.Reach.{finite_reach, reached_by_induction}
-use Rattle.mat_sets.proofs.Search.{is_member-those_below, IsSet-those_below}
-use Rattle.mat_flow.specs.Leading.{AreLedFrom, AreLeading, IsLed}
+use Rattle.mat_flow.proofs.Common.{◌≡◌, ℕ, ◌+◌, ◌<◌, ◌≤◌, Bool, true, false, not, eqb, ltb, List, length, inl, inr, refl, sym, ap, ◌∙◌, subst, arith, and_from, and_parts, both_ways, cases_Bool, cases_eq, eqb-true, false_from_ne_true, false≢true, lt-ltb, ltb-true, not-true, or_cases, or_right}
+use Rattle.mat_flow.proofs.Common.{those_below, is_member, with_one, IsRising, IsReachedSet, IsShortestWalk, length-with_one, below_member, length-distinct_below, AllBelow-from_members, AreDistinct-rising, is_member-with_one, IsRising-with_one, finite_reach, reached_by_induction}
+use Rattle.mat_flow.proofs.Common.{is_member-those_below, IsSet-those_below, AreLedFrom, AreLeading, IsLed}
 
 -- ---- a round
 

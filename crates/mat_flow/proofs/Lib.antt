@@ -1,3 +1,4 @@
+pub mod Common
 pub mod RoutePartLaws
 pub mod TurnedPathLaws
 pub mod VertexBoundLaws

@@ -1,24 +1,12 @@
 -- The line graph: where its arcs lead; its paths are walks of the graph; and what its residual graph reaches cuts off the end where it has no
 -- goal: of the arcs that enter the other vertices each is reached and is before no reached one.
-use Rattle.std.proofs.Common.{if◌then◌else◌, ◌≡◌, ℕ, ◌+◌, ◌<◌, ◌≤◌, Bool, true, false, not, ◌&&◌, ◌||◌, eqb, ltb, List, [], ◌∷◌, ◌++◌, length, Option, Some, None, inl, inr, refl, sym, ap, ◌∙◌, subst, arith}
+use Rattle.mat_flow.proofs.Common.{if◌then◌else◌, ◌≡◌, ℕ, ◌+◌, ◌<◌, ◌≤◌, Bool, true, false, not, ◌&&◌, ◌||◌, eqb, ltb, List, [], ◌∷◌, ◌++◌, length, Option, Some, None, inl, inr, refl, sym, ap, ◌∙◌, subst, arith, and_from, and_parts, both_ways, cases_Bool, cases_eq, eq-eqb, eqb-true}
+use Rattle.mat_flow.proofs.Common.{false_from_ne_true, false≢true, lt-ltb, ne_eqb, not-true, or_cases, or_from, or_left, or_parts, or_right, and_right, All-weaker, entering, DirectedWalk, all_below, is_member, IsRising, IsSet, IsSubset, IsReachedSet, below_member, is_member-all_below}
+use Rattle.mat_flow.proofs.Common.{IsRising-all_below, is_member-filter, is_member-head, is_member-those_below, length-subset, AreArcPaths, IsArcCut, IsArcPath, arcs_from, arcs_to, is_head_there, is_passed, line_arcs, line_rows, pairs_with, IsLeftOut, entry_at, is_before, is_member_there, leads_to}
+use Rattle.mat_flow.proofs.Common.{one_if_none, residual_arc, residual_goal, starts_among, starts_in, IsLinkTable, has_arc, last_of, AreDisjointPaths, IsPath, IsPathBetween, is_member-entering, IsRising-entering, eqb-turned, or_assoc}
 use Rattle.std.proofs.Math.Seq.{take-length}
-use Rattle.std.proofs.lemmas.Bool.{and_from, and_parts, both_ways, cases_Bool, cases_eq, eq-eqb, eqb-true, false_from_ne_true, false≢true, lt-ltb, ne_eqb, not-true, or_cases, or_from, or_left, or_parts, or_right, and_right}
-use Rattle.std.proofs.lemmas.List.Elements.{All-weaker}
 use Rattle.std.specs.List.{filter}
-use Rattle.mat_sets.specs.Graphs.{entering, DirectedWalk}
-use Rattle.mat_sets.specs.Sets.{all_below, is_member, IsRising, IsSet, IsSubset}
-use Rattle.mat_sets.specs.Walks.{IsReachedSet}
 use Rattle.mat_sets.proofs.Filters.{IsRising-filter}
-use Rattle.mat_sets.proofs.Ground.{below_member, is_member-all_below, IsRising-all_below}
-use Rattle.mat_sets.proofs.Members.{is_member-filter, is_member-head}
-use Rattle.mat_sets.proofs.Search.{is_member-those_below}
-use Rattle.mat_sets.proofs.Subsets.{length-subset}
-use Rattle.mat_flow.specs.ArcPaths.{AreArcPaths, IsArcCut, IsArcPath}
-use Rattle.mat_flow.specs.LineGraphs.{arcs_from, arcs_to, is_head_there, is_passed, line_arcs, line_rows, pairs_with, IsLeftOut}
-use Rattle.mat_flow.specs.LinkTables.{entry_at, is_before, is_member_there, leads_to, one_if_none, residual_arc, residual_goal, starts_among, starts_in, IsLinkTable}
-use Rattle.mat_flow.specs.Paths.{has_arc, last_of, AreDisjointPaths, IsPath, IsPathBetween}
-use Rattle.mat_sets.proofs.Crossings.{is_member-entering, IsRising-entering}
-use Rattle.mat_sets.proofs.Truths.{eqb-turned, or_assoc}
 use Rattle.mat_flow.proofs.Frontiers.{is_before_gives, cut_so_far}
 use Rattle.mat_flow.proofs.PathsOfTables.{starts_of_all}
 use Rattle.mat_flow.proofs.Separators.{before_reached}

@@ -1,12 +1,7 @@
 -- Tables of the vertex before each vertex: an entry after a change, how many vertices have none before them, the table of no path, and the
 -- loop that moves the entries of a walk on, one vertex after the other.
-use Rattle.std.proofs.Common.{◌≡◌, ℕ, zero, suc, ◌+◌, ◌<◌, ◌≤◌, ◌≢◌, true, List, [], ◌∷◌, length, get_or, set, Option, Some, None, ◌⊎◌, inl, inr, refl, sym, ap, ◌∙◌, subst, arith, get_or-set_other, get_or-set_same, length-set}
-use Rattle.std.proofs.lemmas.Bool.{both_ways, cases_eq, cases_lt}
-use Rattle.std.proofs.lemmas.List.{get_or_default, get_or_past}
-use Rattle.mat_sets.specs.Sets.{is_member}
-use Rattle.mat_sets.proofs.Members.{is_member-get_or}
-use Rattle.mat_flow.specs.LinkTables.{entry_at, entry_before, leads_to, one_if_none, starts_in, IsLinkTable, IsShifted}
-use Rattle.mat_flow.specs.Trails.{IsReversed}
+use Rattle.mat_flow.proofs.Common.{◌≡◌, ℕ, zero, suc, ◌+◌, ◌<◌, ◌≤◌, ◌≢◌, true, List, [], ◌∷◌, length, get_or, set, Option, Some, None, ◌⊎◌, inl, inr, refl, sym, ap, ◌∙◌, subst, arith, get_or-set_other, get_or-set_same, length-set, both_ways, cases_eq, cases_lt, get_or_default, get_or_past}
+use Rattle.mat_flow.proofs.Common.{is_member, is_member-get_or, entry_at, entry_before, leads_to, one_if_none, starts_in, IsLinkTable, IsShifted, IsReversed}
 
 -- ---- entries
 

@@ -1,20 +1,12 @@
 -- The ends of a table's paths change along a walk of the residual graph: a vertex becomes an end beside the others, or in the place of one of
 -- them. Where no such walk leads to it, the reached vertices that are before no reached vertex, but for the end that gives way, meet each
 -- path to the changed ends, and they are fewer.
-use Rattle.std.proofs.Common.{◌≡◌, ℕ, suc, ◌+◌, ◌<◌, ◌≤◌, ◌≢◌, Bool, true, false, not, ◌&&◌, eqb, List, [], ◌∷◌, length, get_or, map, Option, Some, None, ◌⊎◌, inl, inr, refl, sym, ap, ◌∙◌, subst, arith}
-use Rattle.std.proofs.lemmas.Bool.{and_from, both_ways, cases_Bool, eq-eqb, eqb-true, false_from_ne_true, false≢true, ne_eqb, or_cases, or_left, or_right}
-use Rattle.std.proofs.lemmas.List.{length-map, take_all}
-use Rattle.mat_sets.specs.Graphs.{ends_of}
-use Rattle.mat_sets.specs.Sets.{is_member, with_one, without_one, IsRising, IsSet}
-use Rattle.mat_sets.specs.Walks.{IsShortestWalk, IsWalk}
-use Rattle.mat_sets.proofs.Cardinalities.{length-exchange_one, length-with_one, length-without_one}
-use Rattle.mat_sets.proofs.Ground.{AllBelow-from_members, AreDistinct-rising, IsSet-nil, below_member, length-distinct, length-distinct_subset}
-use Rattle.mat_sets.proofs.Members.{IsRising-nil, IsRising-union, IsRising-with_one, IsRising-without_one, is_member-head, is_member-with_one, is_member-without_one}
-use Rattle.mat_sets.proofs.Reach.{walk_differs}
-use Rattle.mat_flow.specs.LinkTables.{entry_at, is_before, leads_to, one_if_none, residual_arc, starts_among, starts_in, HasEnds, IsShifted}
+use Rattle.mat_flow.proofs.Common.{◌≡◌, ℕ, suc, ◌+◌, ◌<◌, ◌≤◌, ◌≢◌, Bool, true, false, not, ◌&&◌, eqb, List, [], ◌∷◌, length, get_or, map, Option, Some, None, ◌⊎◌, inl, inr, refl, sym, ap, ◌∙◌, subst, arith, and_from, both_ways, cases_Bool, eq-eqb, eqb-true, false_from_ne_true, false≢true, ne_eqb}
+use Rattle.mat_flow.proofs.Common.{or_cases, or_left, or_right, length-map, take_all, ends_of, is_member, with_one, without_one, IsRising, IsSet, IsShortestWalk, IsWalk, length-exchange_one, length-with_one, length-without_one, AllBelow-from_members, AreDistinct-rising, IsSet-nil, below_member}
+use Rattle.mat_flow.proofs.Common.{length-distinct, length-distinct_subset, IsRising-nil, IsRising-union, IsRising-with_one, IsRising-without_one, is_member-head, is_member-with_one, is_member-without_one, walk_differs, entry_at, is_before, leads_to, one_if_none, residual_arc, starts_among}
+use Rattle.mat_flow.proofs.Common.{starts_in, HasEnds, IsShifted, first_of, has_arc, last_of, HasPathsToEach, IsPath, IsSeparator}
 use Rattle.mat_flow.proofs.PathFamilyLaws.{AreDistinct-ends, ends_of as all_ends, is_member-ends_of}
 use Rattle.mat_flow.proofs.PathLaws.{at_most_a_separator}
-use Rattle.mat_flow.specs.Paths.{first_of, has_arc, last_of, HasPathsToEach, IsPath, IsSeparator}
 use Rattle.mat_flow.proofs.SimplePathLaws.{ArePathsApart-disjoint}
 use Rattle.mat_flow.proofs.Augmenting.{gone_free, starts_in-shifted, stays_free, IsComing, IsLinkTable-shifted}
 use Rattle.mat_flow.proofs.Frontiers.{is_before_gives, IsCutting, cut_so_far}

@@ -1,15 +1,6 @@
 -- A vertex is no end and one path more leads to it exactly where from it a walk leads, in what the paths leave, to a vertex with a source after it.
-use Rattle.std.proofs.Common.{◌≡◌, ℕ, Bool, true, false, eqb, List, [], Option, inl, inr, refl, ap, ◌∙◌, subst}
-use Rattle.std.proofs.lemmas.Bool.{cases_Bool, eq-eqb, eqb-true, or_left}
-use Rattle.mat_sets.specs.Sets.{is_member, with_one}
-use Rattle.mat_sets.proofs.Members.{is_member-with_one}
-use Rattle.mat_sets.proofs.Reach.{reached_set_exists, walk_differs}
-use Rattle.mat_flow.specs.Digraphs.{reversed_arcs, DirectedGraph, IsTurned}
-use Rattle.mat_flow.specs.Leading.{AreLeading}
-use Rattle.mat_flow.specs.LinkTables.{residual_arc, residual_goal}
-use Rattle.mat_flow.specs.Paths.{HasPathsToEach}
-use Rattle.mat_flow.specs.Reroutes.{AreNextEnds, AreReroutes}
-use Rattle.mat_flow.specs.declared.reroutes.Reroutes.{Reroutes}
+use Rattle.mat_flow.proofs.Common.{◌≡◌, ℕ, Bool, true, false, eqb, List, [], Option, inl, inr, refl, ap, ◌∙◌, subst, cases_Bool, eq-eqb, eqb-true, or_left, is_member, with_one, is_member-with_one, reached_set_exists, walk_differs, reversed_arcs, DirectedGraph, IsTurned, AreLeading, residual_arc}
+use Rattle.mat_flow.proofs.Common.{residual_goal, HasPathsToEach, AreNextEnds, AreReroutes, Reroutes}
 use Rattle.mat_flow.proofs.LeadingVertices.{leading_walk, unled_misses}
 use Rattle.mat_flow.proofs.PushedWalks.{pushed_paths, pushed_to_no_end}
 use Rattle.mat_flow.proofs.Rerouting.{none_more, only_one, opposite_ways}

@@ -1,13 +1,7 @@
 -- Disjoint paths to some of the ends in any order, and paths for other targets: what the sets that are linked to the sources need.
-use Rattle.std.proofs.Common.{◌≡◌, ℕ, true, eqb, List, [], ◌∷◌, map, inl, inr, ap, ◌∙◌}
-use Rattle.std.proofs.lemmas.Bool.{eqb-true, false≢true, or_cases}
-use Rattle.std.proofs.lemmas.List.Elements.{All-cons, All-head, All-nil, All-tail}
+use Rattle.mat_flow.proofs.Common.{◌≡◌, ℕ, true, eqb, List, [], ◌∷◌, map, inl, inr, ap, ◌∙◌, eqb-true, false≢true, or_cases, All-cons, All-head, All-nil, All-tail, is_member, AreDistinct, is_member-tail, is_member-head, last_of, AreDisjointPaths, IsPathBetween}
 use Rattle.std.specs.List.{All}
-use Rattle.mat_sets.specs.Sets.{is_member, AreDistinct}
-use Rattle.mat_sets.proofs.ListParts.{is_member-tail}
-use Rattle.mat_sets.proofs.Members.{is_member-head}
 use Rattle.mat_flow.proofs.PathFamilyLaws.{AreDisjointPaths-routes, AreRoutes-paths, ends_of, is_member-ends_of, last_of-paths_to, paths_to, route_to}
-use Rattle.mat_flow.specs.Paths.{last_of, AreDisjointPaths, IsPathBetween}
 
 module _ (arcs : List (ℕ × ℕ)) (sources targets : List ℕ) where
   -- paths end at targets

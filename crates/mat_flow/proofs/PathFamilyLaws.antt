@@ -1,14 +1,9 @@
 -- Disjoint paths, as a list of them, are a family of routes back from their last vertices; and a family of routes gives disjoint paths to
 -- any of its ends.
-use Rattle.std.proofs.Common.{◌≡◌, ℕ, Bool, true, false, ◌||◌, eqb, List, [], ◌∷◌, ◌++◌, map, reverse, inl, inr, refl, sym, ap, ◌∙◌}
-use Rattle.std.proofs.lemmas.Bool.{both_ways, cond_both, eqb-true, false_from_ne_true, false≢true, or_cases, or_left}
-use Rattle.std.proofs.lemmas.List.Elements.{All-cons, All-head, All-nil, All-tail}
+use Rattle.mat_flow.proofs.Common.{◌≡◌, ℕ, Bool, true, false, ◌||◌, eqb, List, [], ◌∷◌, ◌++◌, map, reverse, inl, inr, refl, sym, ap, ◌∙◌, both_ways, cond_both, eqb-true, false_from_ne_true, false≢true, or_cases, or_left, All-cons, All-head, All-nil, All-tail, is_member, union, with_one, AreDistinct}
+use Rattle.mat_flow.proofs.Common.{IsRising, AreDistinct-append, AreDistinct-apart, AreDistinct-front, AreDistinct-rest, AreDistinct-reverse, is_member-left, is_member-reverse, is_member-right, is_member-tail, member_differs, IsRising-nil, is_member-append, is_member-head, is_member-union, or_none}
+use Rattle.mat_flow.proofs.Common.{last_of, AreDisjointPaths, IsPathBetween, IsSeparator}
 use Rattle.std.specs.List.{All, concat}
-use Rattle.mat_sets.specs.Sets.{is_member, union, with_one, AreDistinct, IsRising}
-use Rattle.mat_sets.proofs.ListParts.{AreDistinct-append, AreDistinct-apart, AreDistinct-front, AreDistinct-rest, AreDistinct-reverse, is_member-left, is_member-reverse, is_member-right, is_member-tail, member_differs}
-use Rattle.mat_sets.proofs.Members.{IsRising-nil, is_member-append, is_member-head, is_member-union}
-use Rattle.mat_sets.proofs.Truths.{or_none}
-use Rattle.mat_flow.specs.Paths.{last_of, AreDisjointPaths, IsPathBetween, IsSeparator}
 use Rattle.mat_flow.proofs.RouteFamilies.{AreRoutes-with_one}
 use Rattle.mat_flow.proofs.Routes.{AreRoutes, SeparatesRoutes, with_route}
 use Rattle.mat_flow.proofs.TurnedPathLaws.{IsPathTo-reverse, LeadsBack-reverse, first_of-reverse, last_of-member}

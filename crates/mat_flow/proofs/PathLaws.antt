@@ -1,18 +1,10 @@
 -- The laws of disjoint paths: one path more or a separator, at most as many paths as a separator has vertices, and Menger's theorem
 -- (Schrijver, chapter 9).
-use Rattle.std.proofs.Common.{◌≡◌, ℕ, zero, suc, ◌+◌, ◌<◌, ◌≤◌, true, false, ◌||◌, eqb, List, [], ◌∷◌, length, map, reverse, ◌⊎◌, inl, inr, refl, sym, ap, ◌∙◌, arith}
-use Rattle.std.proofs.lemmas.Bool.{both_ways, eqb-true, false_from_ne_true, false≢true, or_cases, or_left}
-use Rattle.std.proofs.lemmas.List.{length-map}
-use Rattle.std.proofs.lemmas.List.Elements.{All-head, All-nil}
+use Rattle.mat_flow.proofs.Common.{◌≡◌, ℕ, zero, suc, ◌+◌, ◌<◌, ◌≤◌, true, false, ◌||◌, eqb, List, [], ◌∷◌, length, map, reverse, ◌⊎◌, inl, inr, refl, sym, ap, ◌∙◌, arith, both_ways, eqb-true, false_from_ne_true, false≢true, or_cases, or_left, length-map, All-head, All-nil, is_member, union}
+use Rattle.mat_flow.proofs.Common.{with_one, AreDistinct, length-with_one, AreDisjoint-first, AreDistinct-rising, length-distinct, length-distinct_subset, is_member-left, is_member-right, IsRising-nil, IsRising-union, is_member-head, is_member-union, is_member-with_one, first_of, last_of}
+use Rattle.mat_flow.proofs.Common.{AreDisjointPaths, ArePathsApart, HasOnePathMore, HasSeparatorOf, IsLinking, IsPath, IsPathBetween, IsSeparator}
 use Rattle.std.specs.List.{concat}
-use Rattle.mat_sets.specs.Sets.{is_member, union, with_one, AreDistinct}
-use Rattle.mat_sets.proofs.Cardinalities.{length-with_one}
-use Rattle.mat_sets.proofs.DisjointLists.{AreDisjoint-first}
-use Rattle.mat_sets.proofs.Ground.{AreDistinct-rising, length-distinct, length-distinct_subset}
-use Rattle.mat_sets.proofs.ListParts.{is_member-left, is_member-right}
-use Rattle.mat_sets.proofs.Members.{IsRising-nil, IsRising-union, is_member-head, is_member-union, is_member-with_one}
 use Rattle.mat_flow.proofs.PathFamilyLaws.{AreDisjointPaths-routes, AreDistinct-ends, AreRoutes-paths, IsSeparator-routes, ends_of, is_member-ends_of, last_of-paths_to, paths_to, route_to}
-use Rattle.mat_flow.specs.Paths.{first_of, last_of, AreDisjointPaths, ArePathsApart, HasOnePathMore, HasSeparatorOf, IsLinking, IsPath, IsPathBetween, IsSeparator}
 use Rattle.mat_flow.proofs.Routes.{HasOneEndMore}
 use Rattle.mat_flow.proofs.RouteStepLaws.{routes_step}
 use Rattle.mat_flow.proofs.SimplePathLaws.{ArePathsApart-disjoint, ArePathsApart-tail, simple_paths}

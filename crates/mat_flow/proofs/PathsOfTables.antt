@@ -1,19 +1,11 @@
 -- The paths that a table holds, as terms: the table is turned round, the paths are read from their starts one after the other, and so
 -- disjoint paths lead to each end of a table. Beside them the moved entries of a walk, as a table.
-use Rattle.std.proofs.Common.{◌≡◌, ℕ, zero, suc, ◌+◌, ◌<◌, ◌≤◌, ◌≢◌, List, [], ◌∷◌, ◌++◌, length, get_or, map, set, take, Option, Some, None, is_some, refl, sym, ap, ◌∙◌, subst, arith}
+use Rattle.mat_flow.proofs.Common.{◌≡◌, ℕ, zero, suc, ◌+◌, ◌<◌, ◌≤◌, ◌≢◌, List, [], ◌∷◌, ◌++◌, length, get_or, map, set, take, Option, Some, None, is_some, refl, sym, ap, ◌∙◌, subst, arith, length-map, length_push, take_all, All-nil, is_member, all_below, AllBelow, IsRising, AllBelow-member}
+use Rattle.mat_flow.proofs.Common.{IsRising-all_below, IsSet-all_below, get_or-all_below, length-all_below, length-distinct, length-distinct_subset, IsRising-nil, IsRising-union, same_size_subset, AllBelow-at, entry_at, one_if_none, starts_among, starts_in, HasEnds, IsLinkTable, IsShifted, last_of}
+use Rattle.mat_flow.proofs.Common.{AreDisjointPaths, HasPathsToEach, AreTrails, IsReversed, IsTrail, IsTrailAmong}
 use Rattle.std.proofs.Math.Numerals.{add-one}
-use Rattle.std.proofs.lemmas.List.{length-map, length_push, take_all}
-use Rattle.std.proofs.lemmas.List.Elements.{All-nil}
-use Rattle.mat_sets.specs.Sets.{is_member, all_below, AllBelow, IsRising}
-use Rattle.mat_sets.proofs.Ground.{AllBelow-member, IsRising-all_below, IsSet-all_below, get_or-all_below, length-all_below, length-distinct, length-distinct_subset}
-use Rattle.mat_sets.proofs.Members.{IsRising-nil, IsRising-union}
-use Rattle.mat_sets.proofs.Subsets.{same_size_subset}
-use Rattle.mat_sets.proofs.Sums.{AllBelow-at}
-use Rattle.mat_flow.specs.LinkTables.{entry_at, one_if_none, starts_among, starts_in, HasEnds, IsLinkTable, IsShifted}
 use Rattle.mat_flow.proofs.PathChoiceLaws.{ends_are_targets}
 use Rattle.mat_flow.proofs.PathFamilyLaws.{AreDistinct-ends, ends_of, is_member-ends_of}
-use Rattle.mat_flow.specs.Paths.{last_of, AreDisjointPaths, HasPathsToEach}
-use Rattle.mat_flow.specs.Trails.{AreTrails, IsReversed, IsTrail, IsTrailAmong}
 use Rattle.mat_flow.proofs.DisjointPaths.{AreDisjointPaths-trails, AreTrails-push, AreTrails-skip, starts_among-more}
 use Rattle.mat_flow.proofs.LinkTables.{entry_inside, none_is_not_some, shifting_next, some_is_one, IsShifting, IsShifting-end}
 use Rattle.mat_flow.proofs.TrailReading.{length-reading, IsReading, IsReading-next, IsReversing, IsReversing-put, IsReversing-skip}

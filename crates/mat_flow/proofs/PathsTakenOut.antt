@@ -1,15 +1,10 @@
 -- A path is taken out of a table from its end on: where its last vertex gets itself before it, what is left of the path leads to the vertex
 -- before that, and in the end nothing is left. Each step makes one entry more a vertex's own.
-use Rattle.std.proofs.Common.{◌≡◌, ℕ, zero, suc, ◌+◌, ◌-◌, ◌<◌, ◌≤◌, ◌≢◌, Bool, true, false, not, ◌&&◌, ◌||◌, eqb, List, [], ◌∷◌, length, set, Option, Some, None, inl, inr, refl, sym, ap, ◌∙◌, subst, arith, length-set}
-use Rattle.std.proofs.lemmas.Bool.{both_ways, cases_eq, eq-eqb, eqb-true, false_from_ne_true, ne_eqb, or_cases, or_right}
+use Rattle.mat_flow.proofs.Common.{◌≡◌, ℕ, zero, suc, ◌+◌, ◌-◌, ◌<◌, ◌≤◌, ◌≢◌, Bool, true, false, not, ◌&&◌, ◌||◌, eqb, List, [], ◌∷◌, length, set, Option, Some, None, inl, inr, refl, sym, ap, ◌∙◌, subst, arith, length-set, both_ways, cases_eq, eq-eqb, eqb-true, false_from_ne_true, ne_eqb, or_cases}
+use Rattle.mat_flow.proofs.Common.{or_right, is_member, with_one, without_one, IsSet, length-with_one, below_member, IsSet-with_one, IsSet-without_one, is_member-with_one, is_member-without_one, same_members, IsRising-with_one, IsRising-without_one, and_not_none, entry_at, is_there, leads_to}
+use Rattle.mat_flow.proofs.Common.{one_if_none, starts_in, with_there, HasEnds, HasPathLeft, IsLinkTable}
 use Rattle.mat_sets.specs.Families.{indicator}
-use Rattle.mat_sets.specs.Sets.{is_member, with_one, without_one, IsSet}
-use Rattle.mat_sets.proofs.Cardinalities.{length-with_one}
 use Rattle.mat_sets.proofs.DisjointSets.{with_one-holds}
-use Rattle.mat_sets.proofs.Ground.{below_member, IsSet-with_one, IsSet-without_one}
-use Rattle.mat_sets.proofs.Members.{is_member-with_one, is_member-without_one, same_members, IsRising-with_one, IsRising-without_one}
-use Rattle.mat_sets.proofs.Truths.{and_not_none}
-use Rattle.mat_flow.specs.LinkTables.{entry_at, is_there, leads_to, one_if_none, starts_in, with_there, HasEnds, HasPathLeft, IsLinkTable}
 use Rattle.mat_flow.proofs.LinkTables.{entry_set, leads_to_itself, none_is_not_some, some_is_one, starts_in-set}
 
 -- ---- one step

@@ -1,23 +1,10 @@
 -- A walk that pushes entries back to a source, read from its end, is a walk of the residual graph: along it v becomes an end, and the table of
 -- the vertex after each vertex moves on along the walk itself. No later walk comes again to what was reached in vain, as the arcs from there
 -- depend on the entries there alone.
-use Rattle.std.proofs.Common.{◌≡◌, ◌≢◌, ℕ, zero, suc, ◌-◌, ◌<◌, ◌≤◌, true, false, ◌&&◌, ◌↔◌, eqb, List, [], ◌∷◌, length, get_or, is_some, Option, Some, None, inl, inr, refl, sym, ap, ◌∙◌, subst, arith}
-use Rattle.std.proofs.lemmas.Bool.{and_from, and_parts, or_left, both_ways, cases_Bool, cases_lt, eq-eqb, eqb-true, false_from_ne_true, false≢true}
-use Rattle.std.proofs.lemmas.List.{get_or_past}
+use Rattle.mat_flow.proofs.Common.{◌≡◌, ◌≢◌, ℕ, zero, suc, ◌-◌, ◌<◌, ◌≤◌, true, false, ◌&&◌, ◌↔◌, eqb, List, [], ◌∷◌, length, get_or, is_some, Option, Some, None, inl, inr, refl, sym, ap, ◌∙◌, subst, arith, and_from, and_parts, or_left, both_ways, cases_Bool, cases_lt, eq-eqb, eqb-true}
+use Rattle.mat_flow.proofs.Common.{false_from_ne_true, false≢true, get_or_past, ends_of, IsFirstFrom, all_below, is_member, with_one, AllBelow, IsWalk, is_member-get_or, is_member-with_one, place_of_member, reached_set_exists, entry_at, is_member_there, leads_to, residual_arc, residual_goal}
+use Rattle.mat_flow.proofs.Common.{HasEnds, IsShifted, HasPathsToEach, reversed_arcs, DirectedGraph, IsTurned, AreReroutes, IsFreeWalk, IsShut, IsSought, IsSpent, Reroutes, IsReversed}
 use Rattle.std.specs.Global.{Vec}
-use Rattle.mat_sets.specs.Graphs.{ends_of}
-use Rattle.mat_sets.specs.Search.{IsFirstFrom}
-use Rattle.mat_sets.specs.Sets.{all_below, is_member, with_one, AllBelow}
-use Rattle.mat_sets.specs.Walks.{IsWalk}
-use Rattle.mat_sets.proofs.Members.{is_member-get_or, is_member-with_one, place_of_member}
-use Rattle.mat_sets.proofs.Reach.{reached_set_exists}
-use Rattle.mat_flow.specs.LinkTables.{entry_at, is_member_there, leads_to, residual_arc, residual_goal, HasEnds, IsShifted}
-use Rattle.mat_flow.specs.Paths.{HasPathsToEach}
-use Rattle.mat_flow.specs.Digraphs.{reversed_arcs, DirectedGraph, IsTurned}
-use Rattle.mat_flow.specs.Reroutes.{AreReroutes}
-use Rattle.mat_flow.specs.Seeking.{IsFreeWalk, IsShut, IsSought, IsSpent}
-use Rattle.mat_flow.specs.declared.reroutes.Reroutes.{Reroutes}
-use Rattle.mat_flow.specs.Trails.{IsReversed}
 use Rattle.mat_flow.proofs.Augmenting.{gone_free, source_comes, stays_free}
 use Rattle.mat_flow.proofs.FirstGoals.{shut_misses, IsShut-all, IsShut-moved, IsShut-spent}
 use Rattle.mat_flow.proofs.LinkedEnds.{HasEnds-shifted, IsReplaced-more}

@@ -1,22 +1,9 @@
 -- The entries that can be pushed on to a vertex v: v itself, and each u that leads to the place of one of them. Where the place of such an entry
 -- is a source, there is one path more, to v; where none is, an end can give way to v exactly where it is such an entry. For a walk that
 -- pushes entries on to v is a walk of the residual graph, read from its goal; each of the four ways is one induction along walks.
-use Rattle.std.proofs.Common.{◌≡◌, ℕ, ◌<◌, ◌≢◌, Bool, true, false, not, ◌||◌, ◌&&◌, eqb, List, [], ◌∷◌, length, get_or, Option, Some, None, inl, inr, refl, sym, ap, ◌∙◌, subst, arith}
-use Rattle.std.proofs.lemmas.Bool.{and_from, and_parts, both_ways, eq-eqb, eqb-true, false_from_ne_true, false≢true, ne_eqb, or_cases, or_left, or_right, not-true, cases_Bool}
-use Rattle.std.proofs.lemmas.List.{get_or-map, length-map}
-use Rattle.mat_sets.specs.Graphs.{ends_of, IsGraph}
-use Rattle.mat_sets.specs.Sets.{is_member, with_one, without_one, AllBelow}
-use Rattle.mat_sets.specs.Walks.{IsReachedSet}
-use Rattle.mat_sets.proofs.Ground.{AllBelow-member, below_member}
-use Rattle.mat_sets.proofs.Members.{is_member-with_one, same_members, IsRising-nil, IsRising-with_one}
-use Rattle.mat_sets.proofs.Reach.{finite_reach, reached_by_induction, reached_set_exists}
-use Rattle.mat_sets.proofs.Truths.{eqb-turned}
-use Rattle.mat_flow.specs.LinkTables.{entry_at, is_member_there, is_there, leads_to, residual_arc, residual_goal, HasEnds}
-use Rattle.mat_flow.specs.Paths.{has_arc, HasPathsToEach}
-use Rattle.mat_flow.specs.Digraphs.{reversed_arcs, DirectedGraph, IsTurned}
-use Rattle.mat_flow.specs.Reroutes.{AreReroutes, GiveWay}
-use Rattle.mat_flow.specs.declared.reroutes.Reroutes.{Reroutes}
-use Rattle.mat_flow.specs.Trails.{IsReversed}
+use Rattle.mat_flow.proofs.Common.{◌≡◌, ℕ, ◌<◌, ◌≢◌, Bool, true, false, not, ◌||◌, ◌&&◌, eqb, List, [], ◌∷◌, length, get_or, Option, Some, None, inl, inr, refl, sym, ap, ◌∙◌, subst, arith, and_from, and_parts, both_ways, eq-eqb, eqb-true, false_from_ne_true, false≢true, ne_eqb, or_cases, or_left}
+use Rattle.mat_flow.proofs.Common.{or_right, not-true, cases_Bool, get_or-map, length-map, ends_of, IsGraph, is_member, with_one, without_one, AllBelow, IsReachedSet, AllBelow-member, below_member, is_member-with_one, same_members, IsRising-nil, IsRising-with_one, finite_reach, reached_by_induction}
+use Rattle.mat_flow.proofs.Common.{reached_set_exists, eqb-turned, entry_at, is_member_there, is_there, leads_to, residual_arc, residual_goal, HasEnds, has_arc, HasPathsToEach, reversed_arcs, DirectedGraph, IsTurned, AreReroutes, GiveWay, Reroutes, IsReversed}
 use Rattle.mat_flow.proofs.Augmenting.{IsComing}
 use Rattle.mat_flow.proofs.LinkedEnds.{no_paths, paths_by_walk, IsReplaced-exchange, IsReplaced-more}
 use Rattle.mat_flow.proofs.LinkTables.{entry_inside, none_is_not_some, some_is_one, none_from}

@@ -1,11 +1,7 @@
 -- A found route crosses a family: its first vertex on a route of the family, read back from its end. The route that it crosses is cut
 -- there, and ends there from then on; the vertices that were left out become terminals.
-use Rattle.std.proofs.Common.{◌≡◌, ℕ, Bool, true, false, ◌||◌, eqb, List, [], ◌∷◌, ◌++◌, ◌⊎◌, inl, inr, refl, sym, ap, ◌∙◌, subst}
-use Rattle.std.proofs.lemmas.Bool.{and_parts, both_ways, eqb-true, false_from_ne_true, false≢true, not-true, or_cases, or_from, or_left, or_parts, or_right}
-use Rattle.mat_sets.specs.Sets.{is_member, with_one, without_one}
-use Rattle.mat_sets.proofs.ListParts.{AreDistinct-apart, AreDistinct-rest, is_member-middle, is_member-right, members_differ}
-use Rattle.mat_sets.proofs.Members.{IsRising-without_one, is_member-append, is_member-without_one}
-use Rattle.mat_sets.proofs.Subsets.{find_member, without_one-IsSubset}
+use Rattle.mat_flow.proofs.Common.{◌≡◌, ℕ, Bool, true, false, ◌||◌, eqb, List, [], ◌∷◌, ◌++◌, ◌⊎◌, inl, inr, refl, sym, ap, ◌∙◌, subst, and_parts, both_ways, eqb-true, false_from_ne_true, false≢true, not-true, or_cases, or_from, or_left, or_parts, or_right, is_member, with_one, without_one}
+use Rattle.mat_flow.proofs.Common.{AreDistinct-apart, AreDistinct-rest, is_member-middle, is_member-right, members_differ, IsRising-without_one, is_member-append, is_member-without_one, find_member, without_one-IsSubset}
 use Rattle.mat_flow.proofs.RouteFamilies.{AreRoutes-fewer, AreRoutes-terminals, AreRoutes-with_one}
 use Rattle.mat_flow.proofs.RoutePartLaws.{LeadsBack-rest, begins_before}
 use Rattle.mat_flow.proofs.Routes.{IsRoute, AreRoutes, with_route, with_terminals}

@@ -1,10 +1,7 @@
 -- A family with more terminals becomes one with fewer: two of its routes go on to further ends over vertices that were terminals, and
 -- the others stay.
-use Rattle.std.proofs.Common.{◌≡◌, ℕ, Bool, true, false, ◌||◌, eqb, List, ◌∷◌, ◌++◌, inl, inr, sym, ◌∙◌, arith}
-use Rattle.std.proofs.lemmas.Bool.{both_ways, cases_Bool, cond_both, false_from_ne_true, or_cases, or_from, or_left}
-use Rattle.mat_sets.specs.Sets.{is_member, with_one, IsRising, IsSubset}
-use Rattle.mat_sets.proofs.ListParts.{AreDistinct-append, AreDistinct-front, is_member-left, is_member-right, members_differ}
-use Rattle.mat_sets.proofs.Members.{is_member-append, set_members}
+use Rattle.mat_flow.proofs.Common.{◌≡◌, ℕ, Bool, true, false, ◌||◌, eqb, List, ◌∷◌, ◌++◌, inl, inr, sym, ◌∙◌, arith, both_ways, cases_Bool, cond_both, false_from_ne_true, or_cases, or_from, or_left, is_member, with_one, IsRising, IsSubset, AreDistinct-append, AreDistinct-front, is_member-left}
+use Rattle.mat_flow.proofs.Common.{is_member-right, members_differ, is_member-append, set_members}
 use Rattle.mat_flow.proofs.RouteFamilies.{AreRoutes-fewer, AreRoutes-terminals, AreRoutes-with_one}
 use Rattle.mat_flow.proofs.RoutePartLaws.{LeadsBack-on, first_of-on}
 use Rattle.mat_flow.proofs.Routes.{IsRoute, AreRoutes, with_route}

@@ -1,8 +1,5 @@
 -- Families of routes with fewer ends, with other terminals, and with one route more.
-use Rattle.std.proofs.Common.{◌≡◌, ℕ, Bool, true, false, ◌||◌, eqb, List, sym, ap, ◌∙◌, subst, arith, inl, inr}
-use Rattle.std.proofs.lemmas.Bool.{both_ways, cases_Bool, cond_both, eqb-true, false_from_ne_true}
-use Rattle.mat_sets.specs.Sets.{is_member, with_one, IsRising, IsSubset}
-use Rattle.mat_sets.proofs.Members.{IsRising-with_one, set_members}
+use Rattle.mat_flow.proofs.Common.{◌≡◌, ℕ, Bool, true, false, ◌||◌, eqb, List, sym, ap, ◌∙◌, subst, arith, inl, inr, both_ways, cases_Bool, cond_both, eqb-true, false_from_ne_true, is_member, with_one, IsRising, IsSubset, IsRising-with_one, set_members}
 use Rattle.mat_flow.proofs.Routes.{IsRoute, AreRoutes, with_route}
 
 module _ {arcs : List (ℕ × ℕ)} {sources : List ℕ} {target : ℕ → Bool} where

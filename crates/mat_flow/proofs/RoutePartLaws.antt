@@ -1,9 +1,5 @@
 -- Fronts and rests of routes: a route that is cut at a vertex, and one that goes on there by another.
-use Rattle.std.proofs.Common.{◌≡◌, ℕ, true, false, eqb, List, [], ◌∷◌, ◌++◌, refl, sym, ap, ◌∙◌, subst}
-use Rattle.std.proofs.lemmas.Bool.{both_ways, eq-eqb, or_left}
-use Rattle.mat_sets.specs.Sets.{is_member}
-use Rattle.mat_sets.proofs.Members.{is_member-head}
-use Rattle.mat_flow.specs.Paths.{first_of}
+use Rattle.mat_flow.proofs.Common.{◌≡◌, ℕ, true, false, eqb, List, [], ◌∷◌, ◌++◌, refl, sym, ap, ◌∙◌, subst, both_ways, eq-eqb, or_left, is_member, is_member-head, first_of}
 use Rattle.mat_flow.proofs.Routes.{LeadsBack}
 
 -- where a route begins does not depend on what comes after a vertex of it

@@ -1,12 +1,8 @@
 -- One end more for the cut family is one end more for the family. Where the end that came lies on a part that was cut off, its route goes
 -- on over that part and the route to the crossing over the other part; otherwise the route to the crossing goes on to its old end.
-use Rattle.std.proofs.Common.{◌≡◌, ℕ, Bool, true, false, ◌||◌, eqb, List, [], ◌∷◌, ◌++◌, inl, inr, refl, sym, ap, ◌∙◌, subst, append_assoc}
-use Rattle.std.proofs.lemmas.Bool.{and_from, eq-eqb, false≢true, and_left, both_ways, cases_Bool, false_from_ne_true, not_from_false, or_from, or_left, or_parts, or_right}
-use Rattle.mat_sets.specs.Sets.{is_member, with_one, without_one}
+use Rattle.mat_flow.proofs.Common.{◌≡◌, ℕ, Bool, true, false, ◌||◌, eqb, List, [], ◌∷◌, ◌++◌, inl, inr, refl, sym, ap, ◌∙◌, subst, append_assoc, and_from, eq-eqb, false≢true, and_left, both_ways, cases_Bool, false_from_ne_true, not_from_false, or_from, or_left, or_parts, or_right, is_member}
+use Rattle.mat_flow.proofs.Common.{with_one, without_one, AreDistinct-apart, SplitAt, is_member-left, is_member-middle, is_member-right, is_member-tail, member_differs, members_differ, split_at, IsRising-without_one, is_member-append, is_member-with_one, is_member-without_one, eqb-turned}
 use Rattle.mat_sets.proofs.Changes.{with_one-returned}
-use Rattle.mat_sets.proofs.ListParts.{AreDistinct-apart, SplitAt, is_member-left, is_member-middle, is_member-right, is_member-tail, member_differs, members_differ, split_at}
-use Rattle.mat_sets.proofs.Members.{IsRising-without_one, is_member-append, is_member-with_one, is_member-without_one}
-use Rattle.mat_sets.proofs.Truths.{eqb-turned}
 use Rattle.mat_flow.proofs.RouteCrossingLaws.{Crossing, at_outside, cut_ends, cut_vertices, kept_end, on_owner, owner_in_front, owner_route}
 use Rattle.mat_flow.proofs.RouteExtensionLaws.{IsExtension, IsRoute-extended, IsRoute-kept, terminal_missed, two_extended}
 use Rattle.mat_flow.proofs.RoutePartLaws.{first_of-member}

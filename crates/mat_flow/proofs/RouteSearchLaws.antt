@@ -1,12 +1,6 @@
 -- A search from the sources for a goal, past no vertex of a set: either a route to a goal is found, or each route to a goal meets the set.
-use Rattle.std.proofs.Common.{◌≡◌, ℕ, zero, suc, ◌<◌, Bool, true, false, not, ◌&&◌, List, [], ◌∷◌, length, get_or, reverse, ◌⊎◌, inl, inr, refl, sym, ap, ◌∙◌, subst, arith}
-use Rattle.std.proofs.lemmas.Bool.{and_from, and_parts, both_ways, cases_Bool, cases_lt, eqb-false, not-true, not_from_false}
-use Rattle.mat_sets.specs.Sets.{is_member}
-use Rattle.mat_sets.specs.Walks.{IsReachedSet, IsShortestWalk}
-use Rattle.mat_sets.proofs.ListParts.{AreDistinct-index, AreDistinct-reverse, is_member-reverse, is_member-tail}
-use Rattle.mat_sets.proofs.Members.{is_member-head, place_of_member}
-use Rattle.mat_sets.proofs.Reach.{finite_reach, shortest_walk_is_chordless}
-use Rattle.mat_flow.specs.Paths.{first_of, has_arc, last_of, IsPath}
+use Rattle.mat_flow.proofs.Common.{◌≡◌, ℕ, zero, suc, ◌<◌, Bool, true, false, not, ◌&&◌, List, [], ◌∷◌, length, get_or, reverse, ◌⊎◌, inl, inr, refl, sym, ap, ◌∙◌, subst, arith, and_from, and_parts, both_ways, cases_Bool, cases_lt, eqb-false, not-true, not_from_false, is_member, IsReachedSet}
+use Rattle.mat_flow.proofs.Common.{IsShortestWalk, AreDistinct-index, AreDistinct-reverse, is_member-reverse, is_member-tail, is_member-head, place_of_member, finite_reach, shortest_walk_is_chordless, first_of, has_arc, last_of, IsPath}
 use Rattle.mat_flow.proofs.Routes.{LeadsBack, IsRoute, SeparatesRoutes}
 use Rattle.mat_flow.proofs.VertexBoundLaws.{heads_below, sources_below, vertex_bound}
 use Rattle.mat_flow.proofs.TurnedPathLaws.{LeadsBack-reverse, first_of-reverse}

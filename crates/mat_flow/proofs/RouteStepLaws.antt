@@ -4,14 +4,8 @@
 -- are cut where they cross, what was cut off becomes terminals, and the family with the crossing for an end has one end more or a
 -- separator by induction: fewer vertices are no terminals. If the end that came lies on a part that was cut off, its route goes on over that
 -- part, and the route to the crossing over the other one; if not, the route to the crossing goes on to its old end.
-use Rattle.std.proofs.Common.{◌≡◌, ℕ, zero, suc, ◌<◌, Bool, true, false, not, ◌||◌, List, length, inl, inr, refl, ap, ◌∙◌, subst, arith}
-use Rattle.std.proofs.lemmas.Bool.{not_from_false, not_from_true, not-true, or_left, or_parts, or_right}
-use Rattle.mat_sets.specs.Search.{those_below}
-use Rattle.mat_sets.specs.Sets.{is_member}
-use Rattle.mat_sets.proofs.Cardinalities.{length-exchange_one}
-use Rattle.mat_sets.proofs.ListParts.{is_member-middle, split_at}
-use Rattle.mat_sets.proofs.Search.{length-those_below_less}
-use Rattle.mat_flow.specs.Paths.{first_of}
+use Rattle.mat_flow.proofs.Common.{◌≡◌, ℕ, zero, suc, ◌<◌, Bool, true, false, not, ◌||◌, List, length, inl, inr, refl, ap, ◌∙◌, subst, arith, not_from_false, not_from_true, not-true, or_left, or_parts, or_right, those_below, is_member, length-exchange_one, is_member-middle, split_at}
+use Rattle.mat_flow.proofs.Common.{length-those_below_less, first_of}
 use Rattle.mat_flow.proofs.RouteCrossingLaws.{Crossing, Meeting, at_free, at_outside, cut_ends, cut_route, cut_routes, cut_vertices, first_meeting}
 use Rattle.mat_flow.proofs.RouteFamilies.{AreRoutes-with_one}
 use Rattle.mat_flow.proofs.RouteReturnLaws.{one_end_more_uncut}

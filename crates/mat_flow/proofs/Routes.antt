@@ -1,9 +1,7 @@
 -- Routes: paths of a directed graph from a source, read back from their end. To cut a path at a vertex is to leave out a front of its
 -- route, and a path that goes on to a further end has a route with a longer front. A family of routes is a set of ends with a route
 -- back from each.
-use Rattle.std.specs.Prelude.{◌≡◌, ℕ, Bool, true, false, ◌||◌, ◌==◌, ◌⊎◌, if◌then◌else◌, List, [], ◌∷◌, length}
-use Rattle.mat_sets.specs.Sets.{is_member, with_one, AreDistinct, IsRising}
-use Rattle.mat_flow.specs.Paths.{first_of, has_arc}
+use Rattle.mat_flow.proofs.Common.{◌≡◌, ℕ, Bool, true, false, ◌||◌, ◌==◌, ◌⊎◌, if◌then◌else◌, List, [], ◌∷◌, length, is_member, with_one, AreDistinct, IsRising, first_of, has_arc}
 
 -- each vertex has an arc from the next one, and the last is a source
 abbrev pub LeadsBack : List (ℕ × ℕ) → List ℕ → List ℕ → Type 0

@@ -1,16 +1,8 @@
 -- The rows of a graph: the row of each vertex has the vertex itself before any arc is entered, and each arc puts its head into the row of its
 -- tail.
-use Rattle.std.proofs.Common.{◌≡◌, ℕ, zero, suc, ◌+◌, ◌<◌, Bool, true, false, ◌||◌, ◌&&◌, eqb, List, [], ◌∷◌, length, set, take, replicate, ltb, inl, inr, refl, sym, ap, ◌∙◌, subst, arith, length-set}
+use Rattle.mat_flow.proofs.Common.{◌≡◌, ℕ, zero, suc, ◌+◌, ◌<◌, Bool, true, false, ◌||◌, ◌&&◌, eqb, List, [], ◌∷◌, length, set, take, replicate, ltb, inl, inr, refl, sym, ap, ◌∙◌, subst, arith, length-set, and_parts, both_ways, eqb-true, lt-ltb, or_cases, get_or-replicate, length-replicate, ends_of}
+use Rattle.mat_flow.proofs.Common.{is_member, with_one, AreRows, is_member-inserted, row_at, or_none, or_assoc, has_arc}
 use Rattle.std.proofs.Math.Numerals.{add-one}
-use Rattle.std.proofs.lemmas.Bool.{and_parts, both_ways, eqb-true, lt-ltb, or_cases}
-use Rattle.std.proofs.lemmas.List.{get_or-replicate, length-replicate}
-use Rattle.mat_sets.specs.Graphs.{ends_of}
-use Rattle.mat_sets.specs.Sets.{is_member, with_one}
-use Rattle.mat_flow.specs.Digraphs.{AreRows}
-use Rattle.mat_sets.proofs.Rows.{is_member-inserted}
-use Rattle.mat_sets.specs.Rows.{row_at}
-use Rattle.mat_sets.proofs.Truths.{or_none, or_assoc}
-use Rattle.mat_flow.specs.Paths.{has_arc}
 
 -- ---- rows without arcs
 

@@ -1,15 +1,8 @@
 -- The frontier of what the sources reach in the residual graph separates: along a path from a source, each reached vertex that is not of the
 -- frontier is before a reached vertex, which an arc leads on from to the next vertex of the path; and at a target such a vertex would be a
 -- goal.
-use Rattle.std.proofs.Common.{◌≡◌, ℕ, ◌<◌, true, false, not, eqb, List, [], ◌∷◌, length, Option, Some, inl, inr, refl, ap, ◌∙◌}
-use Rattle.std.proofs.lemmas.Bool.{and_from, both_ways, cases_Bool, eq-eqb, or_left, or_right}
-use Rattle.mat_sets.specs.Graphs.{ends_of}
-use Rattle.mat_sets.specs.Sets.{is_member, AllBelow, IsRising}
-use Rattle.mat_sets.specs.Walks.{IsReachedSet}
-use Rattle.mat_sets.proofs.Ground.{AllBelow-member}
-use Rattle.mat_sets.proofs.Members.{is_member-head}
-use Rattle.mat_flow.specs.LinkTables.{entry_at, is_before, is_member_there, leads_to, residual_arc, residual_goal, IsFrontier}
-use Rattle.mat_flow.specs.Paths.{first_of, has_arc, last_of, IsPath, IsSeparator}
+use Rattle.mat_flow.proofs.Common.{◌≡◌, ℕ, ◌<◌, true, false, not, eqb, List, [], ◌∷◌, length, Option, Some, inl, inr, refl, ap, ◌∙◌, and_from, both_ways, cases_Bool, eq-eqb, or_left, or_right, ends_of, is_member, AllBelow, IsRising, IsReachedSet, AllBelow-member, is_member-head, entry_at, is_before}
+use Rattle.mat_flow.proofs.Common.{is_member_there, leads_to, residual_arc, residual_goal, IsFrontier, first_of, has_arc, last_of, IsPath, IsSeparator}
 use Rattle.mat_flow.proofs.Frontiers.{is_before_gives}
 use Rattle.mat_flow.proofs.Rows.{head_below}
 

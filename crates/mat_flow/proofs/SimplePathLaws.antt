@@ -1,15 +1,9 @@
 -- Loops are cut out of a path: it keeps its first and its last vertex, gets no new vertex, and has none twice. So paths that share no
 -- vertex with each other give disjoint paths with the same ends.
-use Rattle.std.proofs.Common.{◌≡◌, ℕ, suc, true, eqb, List, [], ◌∷◌, ◌++◌, length, map, inl, inr, refl, sym, ap, ◌∙◌, subst}
-use Rattle.std.proofs.lemmas.Bool.{both_ways, cases_Bool, false_from_ne_true, or_cases, or_left, or_right}
-use Rattle.std.proofs.lemmas.List.Elements.{All-cons, All-head, All-nil, All-tail}
+use Rattle.mat_flow.proofs.Common.{◌≡◌, ℕ, suc, true, eqb, List, [], ◌∷◌, ◌++◌, length, map, inl, inr, refl, sym, ap, ◌∙◌, subst, both_ways, cases_Bool, false_from_ne_true, or_cases, or_left, or_right, All-cons, All-head, All-nil, All-tail, is_member, AreDistinct, AreDisjoint-distinct}
+use Rattle.mat_flow.proofs.Common.{AreDisjoint-first, AreDistinct-append, AreDistinct-rest, is_member-left, is_member-right, is_member-tail, split_at, is_member-append, first_of, has_arc, last_of, AreDisjointPaths, ArePathsApart, IsPath, IsPathBetween}
 use Rattle.std.specs.List.{concat}
-use Rattle.mat_sets.specs.Sets.{is_member, AreDistinct}
-use Rattle.mat_sets.proofs.DisjointLists.{AreDisjoint-distinct, AreDisjoint-first}
 use Rattle.mat_sets.proofs.Families.{AreDisjoint-tail}
-use Rattle.mat_sets.proofs.ListParts.{AreDistinct-append, AreDistinct-rest, is_member-left, is_member-right, is_member-tail, split_at}
-use Rattle.mat_sets.proofs.Members.{is_member-append}
-use Rattle.mat_flow.specs.Paths.{first_of, has_arc, last_of, AreDisjointPaths, ArePathsApart, IsPath, IsPathBetween}
 
 -- ---- parts of paths
 

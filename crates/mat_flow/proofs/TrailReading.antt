@@ -1,14 +1,7 @@
 -- The paths that a table holds, read from their starts: going back from a vertex leads to one start in one number of steps, so no vertex
 -- stands twice in a path, and none in two paths with different starts.
-use Rattle.std.proofs.Common.{◌≡◌, ℕ, zero, suc, ◌+◌, ◌<◌, ◌≤◌, ◌≢◌, true, List, [], ◌∷◌, ◌++◌, length, get_or, set, Option, Some, None, inl, inr, refl, sym, ap, ◌∙◌, subst, arith, length-set}
-use Rattle.std.proofs.lemmas.Bool.{cases_eq, cases_lt}
-use Rattle.std.proofs.lemmas.List.{get_or_append_left, get_or_push, length_push}
-use Rattle.mat_sets.specs.Sets.{is_member}
-use Rattle.mat_sets.proofs.Ground.{AllBelow-from_members, length-distinct_below}
-use Rattle.mat_sets.proofs.ListParts.{AreDistinct-index}
-use Rattle.mat_sets.proofs.Members.{members_by_place, place_of_member}
-use Rattle.mat_flow.specs.LinkTables.{entry_at}
-use Rattle.mat_flow.specs.Trails.{IsReversed, IsTrail}
+use Rattle.mat_flow.proofs.Common.{◌≡◌, ℕ, zero, suc, ◌+◌, ◌<◌, ◌≤◌, ◌≢◌, true, List, [], ◌∷◌, ◌++◌, length, get_or, set, Option, Some, None, inl, inr, refl, sym, ap, ◌∙◌, subst, arith, length-set, cases_eq, cases_lt, get_or_append_left, get_or_push, length_push, is_member, AllBelow-from_members}
+use Rattle.mat_flow.proofs.Common.{length-distinct_below, AreDistinct-index, members_by_place, place_of_member, entry_at, IsReversed, IsTrail}
 use Rattle.mat_flow.proofs.LinkTables.{entry_set, none_is_not_some, some_is_one}
 
 -- ---- the table of the vertex after each vertex

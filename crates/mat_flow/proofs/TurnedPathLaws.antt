@@ -1,8 +1,5 @@
 -- A path from a source, turned round, is a route back from its last vertex; and a route, turned round, is such a path.
-use Rattle.std.proofs.Common.{◌≡◌, ℕ, true, List, [], ◌∷◌, ◌++◌, reverse, refl, sym, ap, ◌∙◌, subst, append_assoc}
-use Rattle.mat_sets.specs.Sets.{is_member}
-use Rattle.mat_sets.proofs.ListParts.{is_member-reverse, reverse-cons}
-use Rattle.mat_flow.specs.Paths.{first_of, last_of, IsPath}
+use Rattle.mat_flow.proofs.Common.{◌≡◌, ℕ, true, List, [], ◌∷◌, ◌++◌, reverse, refl, sym, ap, ◌∙◌, subst, append_assoc, is_member, is_member-reverse, reverse-cons, first_of, last_of, IsPath}
 use Rattle.mat_flow.proofs.RoutePartLaws.{first_of-member}
 use Rattle.mat_flow.proofs.Routes.{LeadsBack}
 

@@ -1,11 +1,5 @@
 -- A bound on the vertices of the paths from some sources: each of them is a source or the head of an arc, and the bound is above all of these.
-use Rattle.std.proofs.Common.{◌≡◌, ℕ, ◌<◌, true, ◌&&◌, eqb, List, [], ◌∷◌, ◌++◌, map, inl, inr, sym, arith}
-use Rattle.std.proofs.lemmas.Bool.{and_parts, eq-eqb, eqb-true, false≢true, or_cases, or_left, or_right}
-use Rattle.mat_sets.specs.Sets.{is_member}
-use Rattle.mat_sets.proofs.Ground.{AllBelow-member}
-use Rattle.mat_sets.proofs.ListParts.{is_member-left, is_member-right}
-use Rattle.mat_sets.proofs.Sums.{AllBelow-above_all, above_all}
-use Rattle.mat_flow.specs.Paths.{has_arc}
+use Rattle.mat_flow.proofs.Common.{◌≡◌, ℕ, ◌<◌, true, ◌&&◌, eqb, List, [], ◌∷◌, ◌++◌, map, inl, inr, sym, arith, and_parts, eq-eqb, eqb-true, false≢true, or_cases, or_left, or_right, is_member, AllBelow-member, is_member-left, is_member-right, AllBelow-above_all, above_all, has_arc}
 
 -- above the sources and the heads of the arcs
 pub vertex_bound : List (ℕ × ℕ) → List ℕ → ℕ

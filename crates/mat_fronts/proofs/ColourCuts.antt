@@ -2,26 +2,13 @@
 -- Idea of the first: such a tree has at most |C| edges with colours of C, and its other edges are a forest among the others.
 -- Idea of the second: the edges of other colours lie outside the cut, so their rank is at most that of the rest, and the rank of the cut
 -- is at least the number of its colours.
-use Rattle.std.proofs.Common.{◌≡◌, ◌≢◌, ℕ, suc, ◌+◌, ◌<◌, ◌≤◌, true, false, not, ◌&&◌, ltb, List, length, sym, ap, ◌∙◌, arith}
-use Rattle.std.proofs.lemmas.Bool.{lt-ltb, and_parts, and_from, both_ways, false_from_ne_true, not-true}
+use Rattle.mat_fronts.proofs.Common.{◌≡◌, ◌≢◌, ℕ, suc, ◌+◌, ◌<◌, ◌≤◌, true, false, not, ◌&&◌, ltb, List, length, sym, ap, ◌∙◌, arith, lt-ltb, and_parts, and_from, both_ways, false_from_ne_true, not-true, is_member, IsRising, IsSet, IsSubset, all_below, minus, AllBelow-from_members}
+use Rattle.mat_fronts.proofs.Common.{IsRising-all_below, below_member, is_member-all_below, IsRising-minus, is_member-filter, is_member-minus, minus-IsSubset, rank, IsCut, rank_is, rank-subset, AreApart, length-one_to_one, is_graphic, number_of_components, graphic_laws, rank_and_number, AreLabelsOf}
+use Rattle.mat_fronts.proofs.Common.{is_once, IsMissingColours, edges_without}
 use Rattle.std.specs.List.{filter}
-use Rattle.mat_sets.specs.Sets.{is_member, IsRising, IsSet, IsSubset, all_below, minus}
 use Rattle.mat_sets.proofs.Cardinalities.{length-minus_subset}
 use Rattle.mat_sets.proofs.Filters.{IsRising-filter}
-use Rattle.mat_sets.proofs.Ground.{AllBelow-from_members, IsRising-all_below, below_member, is_member-all_below}
-use Rattle.mat_sets.proofs.Members.{IsRising-minus, is_member-filter, is_member-minus}
 use Rattle.mat_sets.proofs.Search.{IsSet-those_below, is_member-those_below}
-use Rattle.mat_sets.proofs.Subsets.{minus-IsSubset}
-use Rattle.mat_laws.specs.Ranks.{rank}
-use Rattle.mat_laws.specs.Ladders.{IsCut}
-use Rattle.mat_laws.proofs.RankLaws.{rank_is, rank-subset}
-use Rattle.mat_count.specs.Labels.{AreApart}
-use Rattle.mat_sets.proofs.OneToOne.{length-one_to_one}
-use Rattle.mat_graphic.specs.Forests.{is_graphic, number_of_components}
-use Rattle.mat_graphic.specs.ForestLaws.{graphic_laws}
-use Rattle.mat_graphic.proofs.ComponentCounts.{rank_and_number}
-use Rattle.mat_fronts.specs.Once.{AreLabelsOf, is_once}
-use Rattle.mat_fronts.specs.Rainbow.{IsMissingColours, edges_without}
 use Rattle.mat_fronts.proofs.OnceEach.{length-labels}
 
 module _ (n vertices : ℕ) (ends : ℕ → ℕ × ℕ) (ends_below : (e : ℕ) → e < n → ((ends e).0 < vertices) × ((ends e).1 < vertices)) (label : ℕ → ℕ) where

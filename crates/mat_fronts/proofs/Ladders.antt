@@ -1,37 +1,24 @@
 -- What a ladder of the graphic matroid and of the colours tells.
-use Rattle.std.proofs.Common.{◌≡◌, ◌≢◌, ℕ, suc, ◌-◌, ◌<◌, true, false, List, [], ◌∷◌, length, get_or, map, replicate, ◌⊎◌, inl, inr, refl, sym, ap, ◌∙◌, subst, arith, pos}
-use Rattle.std.proofs.lemmas.Bool.{cases_eq, and_parts, and_from, or_left}
+use Rattle.mat_fronts.proofs.Common.{◌≡◌, ◌≢◌, ℕ, suc, ◌-◌, ◌<◌, true, false, List, [], ◌∷◌, length, get_or, map, replicate, ◌⊎◌, inl, inr, refl, sym, ap, ◌∙◌, subst, arith, pos, cases_eq, and_parts, and_from, or_left, is_member, IsRising, union, IsGraph, ends_of, below_member, IsRising-nil}
+use Rattle.mat_fronts.proofs.Common.{IsRising-union, is_member-union, IsCut, IsRung, rank_is, one_each, is_forest, is_graphic, graphic_laws, IsForest-from_test, test_from-IsForest, rank_and_number, IsSubset-refl, AreLabelsOf, is_once, IsColouring, IsMissingColours, IsRainbowTree}
 use Rattle.std.proofs.lemmas.Int.{ints}
 use Rattle.std.proofs.lemmas.List.{length-replicate}
 use Rattle.std.proofs.lemmas.List.Elements.{All-replicate}
 use Rattle.std.proofs.lemmas.Option.{slice_get-get_or}
 use Rattle.mat_sets.specs.Limits.{largest_weight}
-use Rattle.mat_sets.specs.Sets.{is_member, IsRising, union}
 use Rattle.mat_sets.specs.SetTests.{is_set}
 use Rattle.mat_sets.specs.Sums.{IsWithin}
 use Rattle.mat_sets.specs.Weights.{zero_weight, IsWeightWithin}
 use Rattle.mat_sets.specs.declared.weight.Weight.{Weight}
-use Rattle.mat_sets.specs.Graphs.{IsGraph, ends_of}
-use Rattle.mat_sets.proofs.Ground.{below_member}
 use Rattle.mat_sets.proofs.MappedLists.{is_member-map, mapped_member}
-use Rattle.mat_sets.proofs.Members.{IsRising-nil, IsRising-union, is_member-union}
 use Rattle.mat_sets.proofs.SetTests.{IsSet-from_test, test_from-IsSet}
-use Rattle.mat_laws.specs.Ladders.{IsCut, IsRung}
-use Rattle.mat_laws.proofs.RankLaws.{rank_is}
-use Rattle.mat_count.specs.Labels.{one_each}
 use Rattle.mat_count.specs.Partitions.{CappedClasses}
 use Rattle.mat_count.proofs.LabelledMatroids.{by_labels, labels_read, test_of}
-use Rattle.mat_graphic.specs.Forests.{is_forest, is_graphic}
-use Rattle.mat_graphic.specs.ForestLaws.{graphic_laws, IsForest-from_test, test_from-IsForest}
-use Rattle.mat_graphic.proofs.ComponentCounts.{rank_and_number}
 use Rattle.mat_graphic.proofs.ForestSizes.{some_component}
-use Rattle.mat_sets.proofs.Subsets.{IsSubset-refl}
 use Rattle.mat_sets.proofs.Truths.{or_none}
 use Rattle.mat_split.specs.Ladders.{IsBoundedRung, IsLadder}
 use Rattle.mat_split.specs.declared.ladder.Rung.{Rung}
 use Rattle.mat_split.proofs.LaddersExist.{ladder_exists}
-use Rattle.mat_fronts.specs.Once.{AreLabelsOf, is_once}
-use Rattle.mat_fronts.specs.Rainbow.{IsColouring, IsMissingColours, IsRainbowTree}
 use Rattle.mat_fronts.specs.Assignments.{AreCells, IsAssignment, IsAssignmentLadder, row_at, column_at}
 use Rattle.mat_fronts.proofs.OnceEach.{once_laws, once_apart, once_set, once_from}
 use Rattle.mat_fronts.proofs.ColourCuts.{missing_excludes, missing_of_cut}

@@ -1,3 +1,4 @@
+pub mod Common
 pub mod OnceEach
 pub mod ColourCuts
 pub mod Ladders

@@ -1,19 +1,10 @@
 -- At most one element of each label: the matroid, in words; and its rank is at least the number of labels.
-use Rattle.std.proofs.Common.{◌≡◌, ◌≢◌, ℕ, ◌+◌, ◌<◌, ◌≤◌, true, false, eqb, List, length, get_or, take, ◌⊎◌, inl, inr, refl, sym, ap, ◌∙◌, arith}
-use Rattle.std.proofs.lemmas.Bool.{eqb-true, eq-eqb, both_ways, false_from_ne_true, or_cases, or_left, or_right}
+use Rattle.mat_fronts.proofs.Common.{◌≡◌, ◌≢◌, ℕ, ◌+◌, ◌<◌, ◌≤◌, true, false, eqb, List, length, get_or, take, ◌⊎◌, inl, inr, refl, sym, ap, ◌∙◌, arith, eqb-true, eq-eqb, both_ways, false_from_ne_true, or_cases, or_left, or_right, is_member, IsRising, IsSet, with_one, IsSet-with_one, below_member}
+use Rattle.mat_fronts.proofs.Common.{is_member-with_one, find_member, rank, maximal_in, rank-maximal, AreApart, caps_by, classes_by, one_each, length-covered, AreLabelsOf, is_once}
 use Rattle.mat_sets.proofs.Steps.{is_member-take_more}
-use Rattle.mat_sets.specs.Sets.{is_member, IsRising, IsSet, with_one}
-use Rattle.mat_sets.proofs.Ground.{IsSet-with_one, below_member}
-use Rattle.mat_sets.proofs.Members.{is_member-with_one}
-use Rattle.mat_sets.proofs.Subsets.{find_member}
 use Rattle.mat_laws.specs.Matroids.{IsMatroid, IsMaximal}
-use Rattle.mat_laws.specs.Ranks.{rank}
-use Rattle.mat_laws.proofs.RankLaws.{maximal_in, rank-maximal}
-use Rattle.mat_count.specs.Labels.{AreApart, caps_by, classes_by, one_each}
 use Rattle.mat_count.specs.PartitionLaws.{partition_laws}
 use Rattle.mat_count.proofs.LabelClasses.{IsPartition-classes_by, length-caps_by, labelled_apart, labelled_from, labelled_set}
-use Rattle.mat_sets.proofs.OneToOne.{length-covered}
-use Rattle.mat_fronts.specs.Once.{AreLabelsOf, is_once}
 
 pub once_laws : (n k : ℕ) (label : ℕ → ℕ) → IsMatroid n (is_once n k label)
 once_laws n k label =

@@ -1,12 +1,5 @@
 -- The classes of a partition by the labels that are drawn.
-use Rattle.std.proofs.Common.{◌≡◌, ℕ, ◌+◌, ◌*◌, ◌<◌, eqb, List, [], ◌∷◌, length}
-use Rattle.std.proofs.Common.{get_or, map, refl, ap, ◌∙◌}
-use Rattle.mat_sets.specs.Sets.{all_below}
-use Rattle.mat_sets.proofs.Ground.{length-map_all_below, get_or-map_all_below}
-use Rattle.mat_sets.proofs.Search.{those_below-same}
-use Rattle.mat_count.specs.Labels.{classes_by, labelled}
-use Rattle.mat_gen.specs.Draws.{draw}
-use Rattle.mat_gen.specs.Samples.{class_drawn}
+use Rattle.mat_gen.proofs.Common.{◌≡◌, ℕ, ◌+◌, ◌*◌, ◌<◌, eqb, List, [], ◌∷◌, length, get_or, map, refl, ap, ◌∙◌, all_below, length-map_all_below, get_or-map_all_below, those_below-same, classes_by, labelled, draw, class_drawn}
 
 -- the label at each place of a list that is made so
 pub label_at : (label : ℕ → ℕ) (n e : ℕ) (labels : List ℕ) → labels ≡ map label (all_below n) → e < n

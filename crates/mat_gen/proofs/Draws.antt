@@ -1,12 +1,6 @@
 -- One draw, and lists of what is drawn: element by element, the next one is put behind those before it.
-use Rattle.std.proofs.Common.{◌≡◌, ℕ, ◌+◌, ◌*◌, ◌%◌, ◌<◌, zero, suc, List, [], ◌∷◌, ◌++◌}
-use Rattle.std.proofs.Common.{get_or, length, map, slice_index_or, mul-suc, refl, sym, ap, ◌∙◌, arith}
-use Rattle.std.proofs.lemmas.List.{get_or_read}
-use Rattle.mat_sets.specs.Sets.{all_below}
-use Rattle.mat_sets.specs.declared.weight.Weight.{Weight}
-use Rattle.mat_sets.proofs.Ground.{get_or-map_all_below, length-map_all_below, map-all_below_more, map-all_below_none}
-use Rattle.mat_gen.specs.Draws.{next_state, state_after, draw}
-use Rattle.mat_gen.specs.Samples.{numbers_drawn, pair_drawn, weight_from, weight_of}
+use Rattle.mat_gen.proofs.Common.{◌≡◌, ℕ, ◌+◌, ◌*◌, ◌%◌, ◌<◌, zero, suc, List, [], ◌∷◌, ◌++◌, get_or, length, map, slice_index_or, mul-suc, refl, sym, ap, ◌∙◌, arith, get_or_read, all_below, Weight, get_or-map_all_below, length-map_all_below, map-all_below_more, map-all_below_none, next_state}
+use Rattle.mat_gen.proofs.Common.{state_after, draw, numbers_drawn, pair_drawn, weight_from, weight_of}
 
 -- ---- states
 

@@ -1,3 +1,4 @@
+pub mod Common
 pub mod Draws
 pub mod Classes
 pub mod Validity

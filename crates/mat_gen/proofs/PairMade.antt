@@ -1,16 +1,7 @@
 -- The pair of a graphic matroid and a partition, as they are made of what was drawn.
-use Rattle.std.proofs.Common.{◌≡◌, ℕ, ◌+◌, ◌*◌, ◌/◌, List, length, get_or, map, replicate, ap, ◌∙◌}
-use Rattle.std.proofs.lemmas.List.{length-replicate}
-use Rattle.mat_sets.specs.Sets.{all_below}
-use Rattle.mat_sets.specs.declared.weight.Weight.{Weight}
-use Rattle.mat_sets.proofs.Ground.{length-map_all_below}
-use Rattle.mat_count.specs.Labels.{classes_by}
+use Rattle.mat_gen.proofs.Common.{◌≡◌, ℕ, ◌+◌, ◌*◌, ◌/◌, List, length, get_or, map, replicate, ap, ◌∙◌, length-replicate, all_below, Weight, length-map_all_below, classes_by, graphic, partition, pair, draw, class_drawn, pairs_drawn, weights_drawn, sample_of}
 use Rattle.mat_count.specs.Partitions.{CappedClasses}
 use Rattle.mat_graphic.specs.declared.graphic.Graphic.{Graphic}
-use Rattle.mat_any.specs.Trees.{graphic, partition}
-use Rattle.mat_problem.specs.Instances.{pair}
-use Rattle.mat_gen.specs.Draws.{draw}
-use Rattle.mat_gen.specs.Samples.{class_drawn, pairs_drawn, weights_drawn, sample_of}
 use Rattle.mat_gen.specs.declared.kind.SampleKind.TheVariants as kinds
 use Rattle.mat_gen.proofs.Classes.{classes_drawn}
 

@@ -1,26 +1,16 @@
 -- What is drawn is in range: each draw is below its bound, and so the numbers of a sample are those of a valid problem.
-use Rattle.std.proofs.Common.{◌≡◌, ℕ, zero, suc, ◌+◌, ◌*◌, ◌/◌, ◌<◌, ◌≤◌, List, [], ◌∷◌, length, map}
-use Rattle.std.proofs.Common.{replicate, pos, ◌-ℤ◌, Result, Ok, Err, refl, sym, subst, ◌∙◌, arith}
-use Rattle.std.specs.Prelude.{IfOk}
+use Rattle.mat_gen.proofs.Common.{◌≡◌, ℕ, zero, suc, ◌+◌, ◌*◌, ◌/◌, ◌<◌, ◌≤◌, List, [], ◌∷◌, length, map, replicate, pos, ◌-ℤ◌, Result, Ok, Err, refl, sym, subst, ◌∙◌, arith, IfOk, length-replicate, IsSet, all_below, length-map_all_below, IsSet-those_below, classes_by, Tree, graphic, partition}
+use Rattle.mat_gen.proofs.Common.{Instance, state_after, draw, class_drawn, pair_drawn, pairs_drawn, sample_of, weight_from, weights_from}
 use Rattle.std.specs.List.{All}
 use Rattle.std.proofs.Math.Nat.{mod-lt}
 use Rattle.std.proofs.lemmas.Int.{ints}
-use Rattle.std.proofs.lemmas.List.{length-replicate}
 use Rattle.std.proofs.lemmas.List.Elements.{All-nil, All-cons}
-use Rattle.mat_sets.specs.Sets.{IsSet, all_below}
 use Rattle.mat_sets.specs.Sums.{IsWithin}
 use Rattle.mat_sets.specs.Graphs.{IsGraph}
-use Rattle.mat_sets.proofs.Ground.{length-map_all_below}
-use Rattle.mat_sets.proofs.Search.{IsSet-those_below}
-use Rattle.mat_count.specs.Labels.{classes_by}
 use Rattle.mat_count.proofs.LabelClasses.{IsPartition-classes_by}
-use Rattle.mat_any.specs.Trees.{Tree, graphic, partition}
-use Rattle.mat_problem.specs.Instances.{Instance}
 use Rattle.mat_sets.specs.Limits.{largest_weight, most_elements}
 use Rattle.mat_problem.specs.Validity.{AreClasses, IsPairBelow, IsValidMatroid, IsWeight, IsValid}
 use Rattle.mat_problem.proofs.SoundProblems.{IsGraph-pairs}
-use Rattle.mat_gen.specs.Draws.{state_after, draw}
-use Rattle.mat_gen.specs.Samples.{class_drawn, pair_drawn, pairs_drawn, sample_of, weight_from, weights_from}
 use Rattle.mat_gen.specs.declared.kind.SampleKind.{SampleKind}
 use Rattle.mat_gen.specs.declared.kind.SampleKind.TheVariants as kinds
 

@@ -1,18 +1,8 @@
 -- The row of a column is read off its reduction by the tagged basis of an independent set: the tag marks the sum that the column is, where nothing is
 -- left of it.
-use Rattle.std.proofs.Common.{◌≡◌, ℕ, ◌<◌, true, false, List, length, get_or, sym, ap, ◌∙◌}
-use Rattle.std.proofs.lemmas.Bool.{and_parts}
-use Rattle.std.proofs.lemmas.List.{get_or_default}
+use Rattle.mat_gf2.proofs.Common.{◌≡◌, ℕ, ◌<◌, true, false, List, length, get_or, sym, ap, ◌∙◌, and_parts, get_or_default, is_member, IsRising, is_set, IsSet-from_test, Exchange, TaggedColumn, xor_of, is_linearly_independent, is_gf2, column_of, remainder, marked, reduced_tagged_by, IsTaggedBasis}
 use Rattle.std.specs.Int.Bits.{bit_xor, xor_zero_l, xor_zero_r}
-use Rattle.mat_sets.specs.Sets.{is_member, IsRising}
-use Rattle.mat_sets.specs.SetTests.{is_set}
-use Rattle.mat_sets.proofs.SetTests.{IsSet-from_test}
-use Rattle.mat_laws.specs.declared.exchange.Exchange.{Exchange}
 use Rattle.mat_laws.specs.Exchanges.{row_of}
-use Rattle.mat_gf2.specs.declared.elimination.TaggedColumn.{TaggedColumn}
-use Rattle.mat_gf2.specs.Columns.{xor_of, is_linearly_independent, is_gf2, column_of}
-use Rattle.mat_gf2.specs.Eliminations.{remainder}
-use Rattle.mat_gf2.specs.TaggedColumns.{marked, reduced_tagged_by, IsTaggedBasis}
 use Rattle.mat_gf2.proofs.Tags.{IsRising-marked, marked-IsSubset, marked-zero}
 use Rattle.mat_gf2.proofs.Exchanges.{row_of_sum, row_of_left}
 

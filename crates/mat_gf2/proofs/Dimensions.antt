@@ -1,16 +1,7 @@
 -- A linearly independent set has no more members than a column has entries: its pivots are places of entries.
-use Rattle.std.proofs.Common.{◌≡◌, ℕ, ◌<◌, ◌≤◌, ◌≢◌, ◌^◌, true, eqb, ltb, List, [], ◌∷◌, length, inl, inr, arith}
-use Rattle.std.proofs.lemmas.Bool.{cases_Bool, cases_lt, eqb-false, ltb-true, and_parts, or_right}
+use Rattle.mat_gf2.proofs.Common.{◌≡◌, ℕ, ◌<◌, ◌≤◌, ◌≢◌, ◌^◌, true, eqb, ltb, List, [], ◌∷◌, length, inl, inr, arith, cases_Bool, cases_lt, eqb-false, ltb-true, and_parts, or_right, is_member, is_set, is_member-head, IsSet-from, IsSet-length, below_member, IsSet-from_test, is_linearly_independent}
+use Rattle.mat_gf2.proofs.Common.{is_gf2, column_of, IsBinaryMatrix, reduced, remainder, IsLinearlyIndependent-from_test, leading_bit, leading_bit-is, pow-le}
 use Rattle.std.specs.Int.Bits.{bit_xor}
-use Rattle.mat_sets.specs.Sets.{is_member}
-use Rattle.mat_sets.specs.SetTests.{is_set}
-use Rattle.mat_sets.proofs.Members.{is_member-head}
-use Rattle.mat_sets.proofs.Ground.{IsSet-from, IsSet-length, below_member}
-use Rattle.mat_sets.proofs.SetTests.{IsSet-from_test}
-use Rattle.mat_gf2.specs.Columns.{is_linearly_independent, is_gf2, column_of, IsBinaryMatrix}
-use Rattle.mat_gf2.specs.Eliminations.{reduced, remainder}
-use Rattle.mat_gf2.specs.SpanLaws.{IsLinearlyIndependent-from_test}
-use Rattle.mat_gf2.specs.LeadingBitLaws.{leading_bit, leading_bit-is, pow-le}
 use Rattle.mat_gf2.specs.PivotLaws.{pivots, no_pivot, IsRising-pivots, pivot-cases, length-pivots}
 
 reduced-le : (v b : ℕ) → reduced v b ≤ v

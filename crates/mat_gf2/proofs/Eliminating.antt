@@ -1,15 +1,7 @@
 -- The columns of a set are eliminated from its last member to its first: what is left of each is added to the basis.
-use Rattle.std.proofs.Common.{◌≡◌, ℕ, suc, zero, ◌+◌, ◌-◌, ◌<◌, ◌≤◌, ◌≢◌, Bool, false, ◌&&◌, Result, Ok, Err, IfOk, List, [], ◌∷◌, ◌++◌, length, get_or, drop, refl, sym, ap, ◌∙◌, subst, arith}
-use Rattle.std.proofs.lemmas.Bool.{false≢true, false_from_ne_true}
-use Rattle.std.proofs.lemmas.List.{drop_all, drop_more}
-use Rattle.mat_sets.specs.Sets.{AllBelow, IsRising, IsSubset, RisesFrom}
-use Rattle.mat_sets.proofs.Members.{RisesFrom-suffix, is_member-head, missing_below}
-use Rattle.mat_sets.proofs.Subsets.{IsSubset-refl, IsSubset-trans}
-use Rattle.mat_sets.proofs.Sums.{AllBelow-at}
-use Rattle.mat_sets.proofs.SetTests.{is_set-true}
-use Rattle.mat_gf2.specs.Columns.{IsLinearlyIndependent, is_linearly_independent, is_gf2}
-use Rattle.mat_gf2.specs.Eliminations.{reduced, reduced_by, remainder}
-use Rattle.mat_gf2.specs.SpanLaws.{tail-IsSubset, IsLinearlyIndependent-subset, IsLinearlyIndependent-more, left_of_independent, IsLinearlyIndependent-from_test}
+use Rattle.mat_gf2.proofs.Common.{◌≡◌, ℕ, suc, zero, ◌+◌, ◌-◌, ◌<◌, ◌≤◌, ◌≢◌, Bool, false, ◌&&◌, Result, Ok, Err, IfOk, List, [], ◌∷◌, ◌++◌, length, get_or, drop, refl, sym, ap, ◌∙◌, subst, arith, false≢true, false_from_ne_true, drop_all, drop_more, AllBelow, IsRising, IsSubset, RisesFrom}
+use Rattle.mat_gf2.proofs.Common.{RisesFrom-suffix, is_member-head, missing_below, IsSubset-refl, IsSubset-trans, AllBelow-at, is_set-true, IsLinearlyIndependent, is_linearly_independent, is_gf2, reduced, reduced_by, remainder, tail-IsSubset, IsLinearlyIndependent-subset, IsLinearlyIndependent-more}
+use Rattle.mat_gf2.proofs.Common.{left_of_independent, IsLinearlyIndependent-from_test}
 
 -- ---- the members before a place, backwards
 

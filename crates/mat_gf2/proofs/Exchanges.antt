@@ -1,23 +1,13 @@
 -- The exchanges of a column x outside an independent set I. Where x is the sum of a sublist of I, it can be exchanged for the members of that
 -- sublist: without such a member y something is left of x, or else y were a sum of the others; and without another member the sublist still
 -- makes x dependent.
-use Rattle.std.proofs.Common.{◌≡◌, ℕ, ◌<◌, ◌≢◌, Bool, true, false, ◌&&◌, eqb, List, sym, ap, ◌∙◌, inl, inr, arith}
-use Rattle.std.proofs.lemmas.Bool.{cases_Bool, ne_eqb, and_parts, both_ways, false_from_ne_true}
+use Rattle.mat_gf2.proofs.Common.{◌≡◌, ℕ, ◌<◌, ◌≢◌, Bool, true, false, ◌&&◌, eqb, List, sym, ap, ◌∙◌, inl, inr, arith, cases_Bool, ne_eqb, and_parts, both_ways, false_from_ne_true, is_member, IsRising, IsSubset, IsSet, with_one, without_one, is_set, set_members, same_members, is_member-filter}
+use Rattle.mat_gf2.proofs.Common.{RisesFrom-filter, IsRising-with_one, IsRising-without_one, IsSubset-refl, IsSubset-trans, IsSubset-with_one, without_one-IsSubset, IsSet-without_one, IsSet-from_test, is_set-with_one, Exchange, xor_of, IsLinearlyIndependent, is_linearly_independent, is_gf2}
+use Rattle.mat_gf2.proofs.Common.{remainder, xor_cancel, InSpan, xor_of-without_one, in_span-from_remainder, remainder-xor, remainder-own, remainder-sum, dependent-with_sum, IsLinearlyIndependent-from_test, test_from-IsLinearlyIndependent, test_with_one}
 use Rattle.std.specs.Int.Bits.{bit_xor, xor_zero_r}
 use Rattle.std.specs.List.{filter}
-use Rattle.mat_sets.specs.Sets.{is_member, IsRising, IsSubset, IsSet, with_one, without_one}
-use Rattle.mat_sets.specs.SetTests.{is_set}
-use Rattle.mat_sets.proofs.Members.{set_members, same_members, is_member-filter, RisesFrom-filter, IsRising-with_one, IsRising-without_one}
-use Rattle.mat_sets.proofs.Subsets.{IsSubset-refl, IsSubset-trans, IsSubset-with_one, without_one-IsSubset}
-use Rattle.mat_sets.proofs.Ground.{IsSet-without_one}
-use Rattle.mat_sets.proofs.SetTests.{IsSet-from_test, is_set-with_one}
-use Rattle.mat_laws.specs.declared.exchange.Exchange.{Exchange}
 use Rattle.mat_laws.specs.Exchanges.{row_of}
 use Rattle.mat_laws.proofs.Rows.{row_outside}
-use Rattle.mat_gf2.specs.Columns.{xor_of, IsLinearlyIndependent, is_linearly_independent, is_gf2}
-use Rattle.mat_gf2.specs.Eliminations.{remainder}
-use Rattle.mat_gf2.specs.LeadingBitLaws.{xor_cancel}
-use Rattle.mat_gf2.specs.SpanLaws.{InSpan, xor_of-without_one, in_span-from_remainder, remainder-xor, remainder-own, remainder-sum, dependent-with_sum, IsLinearlyIndependent-from_test, test_from-IsLinearlyIndependent, test_with_one}
 
 -- what a test keeps of I are the members of a part of it, where it agrees with membership there
 kept : (p : ℕ → Bool) (I part : List ℕ) → IsRising I → IsRising part → IsSubset part I

@@ -1,17 +1,8 @@
 -- A greedy run by one elimination: an element can enter exactly where something is left of its column by elimination with the columns of those
 -- that entered, in whatever order they did.
-use Rattle.std.proofs.Common.{◌≡◌, ℕ, ◌<◌, eqb, ◌||◌, true, false, not, ◌&&◌}
-use Rattle.std.proofs.Common.{List, [], ◌∷◌, ◌++◌, inl, inr, refl, sym, ap, ◌∙◌}
-use Rattle.std.proofs.lemmas.Bool.{cases_Bool, and_parts, and_from, false_from_ne_true, or_right}
-use Rattle.mat_sets.specs.Sets.{is_member, IsSubset, with_one}
-use Rattle.mat_sets.specs.SetTests.{is_set}
-use Rattle.mat_sets.proofs.Members.{is_member-with_one, IsRising-with_one}
-use Rattle.mat_sets.proofs.SetTests.{IsSet-from_test, is_set-with_one}
+use Rattle.mat_gf2.proofs.Common.{◌≡◌, ℕ, ◌<◌, eqb, ◌||◌, true, false, not, ◌&&◌, List, [], ◌∷◌, ◌++◌, inl, inr, refl, sym, ap, ◌∙◌, cases_Bool, and_parts, and_from, false_from_ne_true, or_right, is_member, IsSubset, with_one, is_set, is_member-with_one, IsRising-with_one, IsSet-from_test}
+use Rattle.mat_gf2.proofs.Common.{is_set-with_one, IsLinearlyIndependent, is_linearly_independent, is_gf2, reduced_by, remainder, remainder-own, in_span-from_remainder, dependent-with_sum, IsLinearlyIndependent-more, IsLinearlyIndependent-from_test, test_from-IsLinearlyIndependent}
 use Rattle.mat_sets.proofs.DisjointSets.{with_one-holds}
-use Rattle.mat_gf2.specs.Columns.{IsLinearlyIndependent, is_linearly_independent, is_gf2}
-use Rattle.mat_gf2.specs.Eliminations.{reduced_by, remainder}
-use Rattle.mat_gf2.specs.SpanLaws.{remainder-own, in_span-from_remainder, dependent-with_sum}
-use Rattle.mat_gf2.specs.SpanLaws.{IsLinearlyIndependent-more, IsLinearlyIndependent-from_test, test_from-IsLinearlyIndependent}
 use Rattle.mat_gf2.proofs.Eliminating.{IsEliminating, IsEliminating-start, IsEliminating-more}
 
 -- the basis is that of the members of the set, in the order in which they entered, the last one first

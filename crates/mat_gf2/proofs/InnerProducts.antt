@@ -1,19 +1,12 @@
 -- Whether two numbers have an odd number of binary ones in common: it is linear in each of them, with exclusive-or as sum, and a power of two
 -- tells one bit.
-use Rattle.std.proofs.Common.{◌≡◌, ℕ, suc, zero, ◌+◌, ◌*◌, ◌/◌, ◌%◌, ◌^◌, ◌<◌, min, Bool, true, false, not, eqb, List, [], ◌∷◌, inl, inr, refl, sym, ap, ◌∙◌, arith, bit_and, count_ones}
+use Rattle.mat_gf2.proofs.Common.{◌≡◌, ℕ, suc, zero, ◌+◌, ◌*◌, ◌/◌, ◌%◌, ◌^◌, ◌<◌, min, Bool, true, false, not, eqb, List, [], ◌∷◌, inl, inr, refl, sym, ap, ◌∙◌, arith, bit_and, count_ones, cases_eq, or_right, and_comm, and_shr, xor_shr, pow_pos, bit_at_lowest, bit_at_and, bit_at_xor, bit_at-zero}
+use Rattle.mat_gf2.proofs.Common.{and_pow, bit_at-lt, same_from_bits_below, is_member, is_member-head, xor_of, inner_product_is_one, bit_cases}
 use Rattle.std.specs.Int.{bit_at}
 use Rattle.std.specs.Int.Bits.{bit_xor, and_zero_r, and_zero_l}
 use Rattle.std.proofs.Math.Nat.{pow-suc}
-use Rattle.std.proofs.lemmas.Bool.{cases_eq, or_right}
 use Rattle.std.proofs.lemmas.Bool.Decides.{nat_tests}
-use Rattle.std.proofs.lemmas.Nat.{and_comm, and_shr, xor_shr, pow_pos}
-use Rattle.std.proofs.lemmas.Nat.Bits.{bit_at_lowest, bit_at_and, bit_at_xor, bit_at-zero, and_pow, bit_at-lt, same_from_bits_below}
 use lib.Count.{ones_step, ones_cat}
-use Rattle.mat_sets.specs.Sets.{is_member}
-use Rattle.mat_sets.proofs.Members.{is_member-head}
-use Rattle.mat_gf2.specs.Columns.{xor_of}
-use Rattle.mat_gf2.specs.InnerProducts.{inner_product_is_one}
-use Rattle.mat_gf2.specs.LeadingBitLaws.{bit_cases}
 
 -- whether one of two holds alone
 abbrev pub differ : Bool → Bool → Bool

@@ -1,3 +1,4 @@
+pub mod Common
 pub mod Circuits
 pub mod Dimensions
 pub mod Eliminating

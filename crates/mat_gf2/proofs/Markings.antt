@@ -1,15 +1,9 @@
 -- The members that a tag marks are collected in rising order, place by place.
-use Rattle.std.proofs.Common.{◌≡◌, ℕ, ◌+◌, ◌/◌, ◌^◌, ◌<◌, ◌≤◌, ◌||◌, cond, eqb, List, ◌∷◌, length, get_or, drop, sym, ap, ◌∙◌}
+use Rattle.mat_gf2.proofs.Common.{◌≡◌, ℕ, ◌+◌, ◌/◌, ◌^◌, ◌<◌, ◌≤◌, ◌||◌, cond, eqb, List, ◌∷◌, length, get_or, drop, sym, ap, ◌∙◌, eq-eqb, ne_eqb, drop_all, drop_more, shr_and_one, is_member, IsRising, with_one, is_member-with_one, same_members, IsRising-with_one, marked_from, marked}
 use Rattle.std.proofs.Math.Numerals.{add-one}
-use Rattle.std.proofs.lemmas.Bool.{eq-eqb, ne_eqb}
-use Rattle.std.proofs.lemmas.List.{drop_all, drop_more}
-use Rattle.std.proofs.lemmas.Nat.Bits.{shr_and_one}
 use Rattle.std.specs.Int.{bit_at}
 use Rattle.std.specs.Int.Bits.{bit_and}
-use Rattle.mat_sets.specs.Sets.{is_member, IsRising, with_one}
-use Rattle.mat_sets.proofs.Members.{is_member-with_one, same_members, IsRising-with_one}
 use Rattle.mat_sets.proofs.Truths.{or_assoc, or_commute, or_none}
-use Rattle.mat_gf2.specs.TaggedColumns.{marked_from, marked}
 use Rattle.mat_gf2.proofs.Tags.{IsRising-marked}
 
 -- the members found and those marked from a place on are together all that the tag marks

@@ -1,20 +1,13 @@
 -- Parity checks of the span of a basis. The transpose of reduction by a row makes of the transpose of reduction by the later rows that of
 -- reduction by that row and these; and a column that fails a check is outside the span.
-use Rattle.std.proofs.Common.{◌≡◌, ℕ, ◌+◌, ◌-◌, ◌*◌, ◌^◌, ◌<◌, ◌≤◌, Bool, true, false, eqb, ltb, List, [], ◌∷◌, All, length, get_or, drop, inl, inr, refl, sym, ap, ◌∙◌, subst, arith}
-use Rattle.std.proofs.lemmas.Bool.{cases_Bool, cases_lt, false≢true}
-use Rattle.std.proofs.lemmas.List.{drop_all, drop_more}
+use Rattle.mat_gf2.proofs.Common.{◌≡◌, ℕ, ◌+◌, ◌-◌, ◌*◌, ◌^◌, ◌<◌, ◌≤◌, Bool, true, false, eqb, ltb, List, [], ◌∷◌, All, length, get_or, drop, inl, inr, refl, sym, ap, ◌∙◌, subst, arith, cases_Bool, cases_lt, false≢true, drop_all, drop_more, TaggedColumn, reduced, inner_product_is_one, IsLeadingBit}
+use Rattle.mat_gf2.proofs.Common.{bit_cases, reduced-set, reduced-clear, reduced_tagged, reduced_tagged_by, IsParityCheck, IsTransposed}
 use Rattle.std.proofs.lemmas.List.Elements.{All-weaker}
 use Rattle.std.proofs.lemmas.List.Folds.{list_any_none}
 use Rattle.std.proofs.Math.Nat.{pow-suc}
 use Rattle.std.specs.Int.{bit_at}
 use Rattle.std.specs.Int.Bits.{bit_xor}
 use Rattle.std.specs.List.{list_any}
-use Rattle.mat_gf2.specs.declared.elimination.TaggedColumn.{TaggedColumn}
-use Rattle.mat_gf2.specs.Eliminations.{reduced}
-use Rattle.mat_gf2.specs.InnerProducts.{inner_product_is_one}
-use Rattle.mat_gf2.specs.LeadingBitLaws.{IsLeadingBit, bit_cases, reduced-set, reduced-clear}
-use Rattle.mat_gf2.specs.TaggedColumns.{reduced_tagged, reduced_tagged_by}
-use Rattle.mat_gf2.specs.ParityChecks.{IsParityCheck, IsTransposed}
 use Rattle.mat_gf2.proofs.InnerProducts.{differ, inner_product_is_one-xor, inner_product_is_one-xor_right, inner_product_is_one-zero_right, inner_product_is_one-power}
 use Rattle.mat_gf2.proofs.Tags.{reduced_tagged-column}
 

@@ -1,20 +1,11 @@
 -- Elimination with tags. The exclusive-or of the columns that a tag marks is linear in the tag, and one bit marks one member; so what is left of a
 -- column differs from it by the sum that its tag marks.
-use Rattle.std.proofs.Common.{◌≡◌, ℕ, suc, zero, ◌+◌, ◌*◌, ◌^◌, ◌%◌, ◌<◌, ◌≤◌, Bool, true, false, cond, eqb, ltb, List, [], ◌∷◌, ◌++◌, length, get_or, ◌⊎◌, inl, inr, refl, sym, ap, ◌∙◌, arith}
-use Rattle.std.proofs.lemmas.Bool.{cases_Bool, or_cases, or_left, or_right}
-use Rattle.std.proofs.lemmas.Nat.{xor_comm}
-use Rattle.std.proofs.lemmas.Nat.Bits.{bit_at_xor, bit_at-zero, bit_at-pow_same, bit_at-pow_other}
+use Rattle.mat_gf2.proofs.Common.{◌≡◌, ℕ, suc, zero, ◌+◌, ◌*◌, ◌^◌, ◌%◌, ◌<◌, ◌≤◌, Bool, true, false, cond, eqb, ltb, List, [], ◌∷◌, ◌++◌, length, get_or, ◌⊎◌, inl, inr, refl, sym, ap, ◌∙◌, arith, cases_Bool, or_cases, or_left, or_right, xor_comm, bit_at_xor, bit_at-zero, bit_at-pow_same}
+use Rattle.mat_gf2.proofs.Common.{bit_at-pow_other, is_member, IsRising, RisesFrom, IsSubset, RisesFrom-weaken, TaggedColumn, xor_of, reduced, remainder, bit_cases, xor_both, marked_from, marked, reduced_tagged, reduced_tagged_by, IsTaggedBasis}
 use Rattle.std.proofs.Math.Nat.{mod-eq_of_lt}
 use Rattle.std.proofs.Math.Pow.{pow-lt}
 use Rattle.std.specs.Int.{bit_at}
 use Rattle.std.specs.Int.Bits.{bit_xor, xor_self, xor_zero_r, xor_assoc}
-use Rattle.mat_sets.specs.Sets.{is_member, IsRising, RisesFrom, IsSubset}
-use Rattle.mat_sets.proofs.Members.{RisesFrom-weaken}
-use Rattle.mat_gf2.specs.declared.elimination.TaggedColumn.{TaggedColumn}
-use Rattle.mat_gf2.specs.Columns.{xor_of}
-use Rattle.mat_gf2.specs.Eliminations.{reduced, remainder}
-use Rattle.mat_gf2.specs.LeadingBitLaws.{bit_cases, xor_both}
-use Rattle.mat_gf2.specs.TaggedColumns.{marked_from, marked, reduced_tagged, reduced_tagged_by, IsTaggedBasis}
 
 -- ---- what a tag marks
 

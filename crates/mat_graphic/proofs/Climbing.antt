@@ -1,15 +1,7 @@
 -- Climbing in a rooted forest from two places, always from the later one, until both meet: the edges so far lead from the first vertex up to
 -- one place and from the other place down to the second vertex. Each has an end at a place after both, so no edge is used twice.
-use Rattle.std.proofs.Common.{◌≡◌, ℕ, ◌<◌, ◌≢◌, max, true, false, ◌||◌, eqb, List, [], ◌∷◌, ◌++◌, length, get_or, Option, ◌⊎◌, inl, inr, refl, sym, ap, ◌∙◌, subst, arith, append_assoc}
-use Rattle.std.proofs.lemmas.Bool.{cases_lt, eqb-true, or_cases, or_parts, false≢true, false_from_ne_true, or_from}
-use Rattle.std.proofs.lemmas.Bool.Decides.{nat_tests}
-use Rattle.mat_sets.specs.Sets.{is_member, AreDistinct, with_one}
-use Rattle.mat_sets.specs.Graphs.{Joins, Walk}
-use Rattle.mat_sets.proofs.Members.{is_member-append, is_member-with_one}
-use Rattle.mat_sets.proofs.Truths.{eqb-turned, or_swap}
-use Rattle.mat_graphic.specs.Mergings.{least_merged}
-use Rattle.mat_graphic.specs.ComponentLaws.{member_within, walk_append, walk_same}
-use Rattle.mat_graphic.specs.TrailSearches.{AreAfter, EndsAt, IsClimbing, IsOrder, IsTree, IsTrailSet}
+use Rattle.mat_graphic.proofs.Common.{◌≡◌, ℕ, ◌<◌, ◌≢◌, max, true, false, ◌||◌, eqb, List, [], ◌∷◌, ◌++◌, length, get_or, Option, ◌⊎◌, inl, inr, refl, sym, ap, ◌∙◌, subst, arith, append_assoc, cases_lt, eqb-true, or_cases, or_parts, false≢true, false_from_ne_true, or_from, nat_tests, is_member}
+use Rattle.mat_graphic.proofs.Common.{AreDistinct, with_one, Joins, Walk, is_member-append, is_member-with_one, eqb-turned, or_swap, least_merged, member_within, walk_append, walk_same, AreAfter, EndsAt, IsClimbing, IsOrder, IsTree, IsTrailSet}
 use Rattle.mat_graphic.proofs.TrailScans.{order-differ}
 
 -- ---- an edge between two lists

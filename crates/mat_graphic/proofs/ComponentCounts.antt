@@ -1,23 +1,12 @@
 -- The least vertex that a look through the walks finds is the one by merging, as a trail joins two vertices where that is the same.
 -- The rank of a set of edges and the number of its components add up to the number of vertices. A largest forest in the set has the same
 -- components, and it has as many edges as there are vertices from which it reaches a lower one; from all others none is reached.
-use Rattle.std.proofs.Common.{◌≡◌, ℕ, suc, get_or, ◌≤◌, ◌+◌, ◌<◌, ◌≢◌, Bool, true, false, not, ◌&&◌, eqb, ltb, List, [], ◌∷◌, length, inl, inr, refl, sym, ap, ◌∙◌, arith}
-use Rattle.std.proofs.lemmas.Bool.{cases_eq, eqb-true, eqb-false, lt-ltb, or_cases, and_from, false≢true, and_parts, both_ways, not-true, false_from_ne_true}
-use Rattle.mat_sets.specs.Sets.{is_member, IsRising, RisesFrom, IsSet, IsSubset, AllBelow, all_below, minus}
-use Rattle.mat_sets.specs.SetTests.{is_set}
-use Rattle.mat_sets.specs.Search.{those_below}
-use Rattle.mat_sets.specs.Graphs.{Walk}
-use Rattle.mat_sets.proofs.Members.{IsRising-minus, member_from, is_member-head, is_member-minus, same_members}
-use Rattle.mat_sets.proofs.Ground.{AllBelow-from_members, IsRising-all_below, below_member, is_member-all_below, length-complement}
-use Rattle.mat_sets.proofs.Search.{IsSet-those_below, is_member-those_below}
-use Rattle.mat_sets.proofs.SetTests.{IsSet-from_test}
+use Rattle.mat_graphic.proofs.Common.{◌≡◌, ℕ, suc, get_or, ◌≤◌, ◌+◌, ◌<◌, ◌≢◌, Bool, true, false, not, ◌&&◌, eqb, ltb, List, [], ◌∷◌, length, inl, inr, refl, sym, ap, ◌∙◌, arith, cases_eq, eqb-true, eqb-false, lt-ltb, or_cases, and_from, false≢true, and_parts, both_ways, not-true}
+use Rattle.mat_graphic.proofs.Common.{false_from_ne_true, is_member, IsRising, RisesFrom, IsSet, IsSubset, AllBelow, all_below, minus, is_set, those_below, Walk, IsRising-minus, member_from, is_member-head, is_member-minus, same_members, AllBelow-from_members, IsRising-all_below, below_member}
+use Rattle.mat_graphic.proofs.Common.{is_member-all_below, length-complement, IsSet-those_below, is_member-those_below, IsSet-from_test, IsMaximal-largest_subset, rank_is, IsForest, IsLeastReached, is_walk, is_reached, least_reached, is_forest, is_graphic, number_of_components, least_merged}
+use Rattle.mat_graphic.proofs.Common.{IsWithin, least_merged-le, least_merged-fixed, member_within, trail_of_same, walk_same, IsForest-from_test, graphic_laws, is_graphic-with_one, reaching_lower, is_member-reaching_lower, IsRising-reaching_lower, length-reaching_lower}
 use Rattle.mat_laws.specs.Ranks.{IsRank, rank}
-use Rattle.mat_laws.proofs.RankLaws.{IsMaximal-largest_subset, rank_is}
-use Rattle.mat_graphic.specs.Forests.{IsForest, IsLeastReached, is_walk, is_reached, least_reached, is_forest, is_graphic, number_of_components}
-use Rattle.mat_graphic.specs.Mergings.{least_merged}
 use Rattle.mat_graphic.specs.SearchLaws.{some_distinct_list-gives, some_distinct_list-from, Walk-from_test, test_from-Walk}
-use Rattle.mat_graphic.specs.ComponentLaws.{IsWithin, least_merged-le, least_merged-fixed, member_within, trail_of_same, walk_same}
-use Rattle.mat_graphic.specs.ForestLaws.{IsForest-from_test, graphic_laws, is_graphic-with_one, reaching_lower, is_member-reaching_lower, IsRising-reaching_lower, length-reaching_lower}
 
 -- a set of numbers below n is that of another test that says the same
 those_below-same : (n : ℕ) (f g : ℕ → Bool) → ((k : ℕ) → f k ≡ g k) → those_below n f ≡ those_below n g

@@ -1,12 +1,7 @@
 -- The components of a graph as sets of vertices: what a table of the least vertices tells of them, and that their members are vertices.
-use Rattle.std.proofs.Common.{◌≡◌, ◌∙◌, ℕ, ◌<◌, eqb, List, [], length, get_or, map, sym, subst, ap, arith}
-use Rattle.std.specs.Prelude.{All}
-use Rattle.std.proofs.lemmas.List.{get_or-map, length-map}
+use Rattle.mat_graphic.proofs.Common.{◌≡◌, ◌∙◌, ℕ, ◌<◌, eqb, List, [], length, get_or, map, sym, subst, ap, arith, All, get_or-map, length-map, AllBelow, IsRising, IsSet-those_below, those_below-same, class_of, components_of, least_reached, roots_of, IsLeastReached}
 use Rattle.std.proofs.lemmas.List.Elements.{All-from_get_or}
-use Rattle.mat_sets.specs.Sets.{AllBelow, IsRising}
 use Rattle.mat_sets.proofs.MappedLists.{map_same}
-use Rattle.mat_sets.proofs.Search.{IsSet-those_below, those_below-same}
-use Rattle.mat_graphic.specs.Forests.{class_of, components_of, least_reached, roots_of, IsLeastReached}
 use Rattle.mat_graphic.proofs.ComponentCounts.{least_reached-merged, IsLeastReached-unique}
 
 -- the classes of the vertices with the same least vertex are the components

@@ -1,24 +1,10 @@
 -- The exchanges of an edge x at a forest I: where its ends are in two components it can be added and exchanged for any member; else the
 -- members for which it can be exchanged are those of a trail between its ends. A closed walk through one of these uses it once.
-use Rattle.std.proofs.Common.{◌≡◌, ℕ, ◌<◌, ◌≢◌, Bool, true, false, not, ◌&&◌, eqb, List, inl, inr, sym, ap, ◌∙◌, arith, refl}
-use Rattle.std.proofs.lemmas.Bool.{cases_Bool, ne_eqb, or_left, or_right, and_parts, and_from, both_ways, false_from_ne_true, eq-eqb}
-use Rattle.std.proofs.lemmas.Bool.Decides.{nat_tests}
-use Rattle.mat_sets.specs.Sets.{is_member, IsRising, IsSubset, IsSet, with_one, without_one}
-use Rattle.mat_sets.specs.SetTests.{is_set}
-use Rattle.mat_sets.proofs.Members.{IsRising-with_one, IsRising-without_one, RisesFrom-filter, is_member-filter, is_member-with_one, is_member-without_one, same_members, set_members}
-use Rattle.mat_sets.proofs.Ground.{IsSet-with_one, IsSet-without_one}
-use Rattle.mat_sets.proofs.Subsets.{without_one-IsSubset}
-use Rattle.mat_sets.proofs.SetTests.{IsSet-from_test, test_from-IsSet}
+use Rattle.mat_graphic.proofs.Common.{◌≡◌, ℕ, ◌<◌, ◌≢◌, Bool, true, false, not, ◌&&◌, eqb, List, inl, inr, sym, ap, ◌∙◌, arith, refl, cases_Bool, ne_eqb, or_left, or_right, and_parts, and_from, both_ways, false_from_ne_true, eq-eqb, nat_tests, is_member, IsRising, IsSubset, IsSet, with_one}
+use Rattle.mat_graphic.proofs.Common.{without_one, is_set, IsRising-with_one, IsRising-without_one, RisesFrom-filter, is_member-filter, is_member-with_one, is_member-without_one, same_members, set_members, IsSet-with_one, IsSet-without_one, without_one-IsSubset, IsSet-from_test, test_from-IsSet}
+use Rattle.mat_graphic.proofs.Common.{Exchange, row_of, IsForest, is_forest, is_graphic, least_merged, Trail, IsWithin, member_within, trail_of_same, IsTrailSet, IsForest-from_test, test_from-IsForest, IsForest-more, IsForest-subset, crossed_once, in_with_one, is_graphic-with_one, never_joined}
 use Rattle.mat_sets.proofs.Filters.{filter_whole}
-use Rattle.mat_laws.specs.declared.exchange.Exchange.{Exchange}
-use Rattle.mat_laws.specs.Exchanges.{row_of}
 use Rattle.mat_laws.proofs.Rows.{exchanged, row_outside}
-use Rattle.mat_graphic.specs.Forests.{IsForest, is_forest, is_graphic}
-use Rattle.mat_graphic.specs.Mergings.{least_merged}
-use Rattle.mat_graphic.specs.TrailSearches.{Trail}
-use Rattle.mat_graphic.specs.ComponentLaws.{IsWithin, member_within, trail_of_same}
-use Rattle.mat_graphic.specs.TrailSearches.{IsTrailSet}
-use Rattle.mat_graphic.specs.ForestLaws.{IsForest-from_test, test_from-IsForest, IsForest-more, IsForest-subset, crossed_once, in_with_one, is_graphic-with_one, never_joined}
 
 in_both : (x y z : ℕ) (I : List ℕ) → is_member z (with_one (without_one I y) x) ≡ true → eqb z x ≡ false → is_member z I ≡ true
 in_both x y z I m other = grind (arith, set_members)

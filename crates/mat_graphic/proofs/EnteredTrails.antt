@@ -1,20 +1,9 @@
 -- An edge is put into the columns of the edges of a trail while the trail is climbed. Those are the columns of the row of the edge; where the
 -- climbing ends at a root, those so far are some of the members that the row then has.
-use Rattle.std.proofs.Common.{◌≡◌, ℕ, ◌<◌, ◌≤◌, ◌≢◌, Bool, true, false, not, ◌&&◌, ◌||◌, eqb, ltb, List, [], length, get_or, set}
-use Rattle.std.proofs.Common.{inl, inr, refl, sym, ap, ◌∙◌, arith, get_or-set_other, get_or-set_same, length-set}
-use Rattle.std.proofs.lemmas.Bool.{and_right, cases_eq, cases_lt, eq-eqb, le-ltb, lt-ltb, ne_eqb, or_left}
+use Rattle.mat_graphic.proofs.Common.{◌≡◌, ℕ, ◌<◌, ◌≤◌, ◌≢◌, Bool, true, false, not, ◌&&◌, ◌||◌, eqb, ltb, List, [], length, get_or, set, inl, inr, refl, sym, ap, ◌∙◌, arith, get_or-set_other, get_or-set_same, length-set, and_right, cases_eq, cases_lt, eq-eqb, le-ltb, lt-ltb, ne_eqb, or_left}
+use Rattle.mat_graphic.proofs.Common.{is_member, union, with_one, without_one, AllBelow, AllBelow-member, is_member-union, is_member-with_one, IsRising-nil, IsRising-union, or_none, row_of, Exchange, AreEntering, is_graphic, least_merged, IsClimbing, IsTrailEntered, IsTrailSet}
 use Rattle.mat_sets.specs.Rows.{row_at, IsEntered}
-use Rattle.mat_sets.specs.Sets.{is_member, union, with_one, without_one, AllBelow}
-use Rattle.mat_sets.proofs.Ground.{AllBelow-member}
-use Rattle.mat_sets.proofs.Members.{is_member-union, is_member-with_one, IsRising-nil, IsRising-union}
-use Rattle.mat_sets.proofs.Truths.{or_none}
 use Rattle.mat_laws.specs.Columns.{AreColumns}
-use Rattle.mat_laws.specs.Exchanges.{row_of}
-use Rattle.mat_laws.specs.declared.exchange.Exchange.{Exchange}
-use Rattle.mat_laws.proofs.ColumnSteps.{AreEntering}
-use Rattle.mat_graphic.specs.Forests.{is_graphic}
-use Rattle.mat_graphic.specs.Mergings.{least_merged}
-use Rattle.mat_graphic.specs.TrailSearches.{IsClimbing, IsTrailEntered, IsTrailSet}
 use Rattle.mat_graphic.proofs.Climbing.{IsClimbing-start, IsClimbing-end}
 use Rattle.mat_graphic.proofs.EdgeRows.{row-apart, row-trail}
 

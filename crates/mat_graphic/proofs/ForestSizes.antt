@@ -2,24 +2,10 @@
 -- edge fewer than there are vertices, is a forest.
 -- Idea of the first: a forest has as many edges as there are vertices from which it reaches a lower one, and among the touched vertices
 -- the lowest is none of these.
-use Rattle.std.proofs.Common.{◌≡◌, ◌≢◌, ℕ, suc, ◌<◌, ◌≤◌, Bool, true, eqb, ltb, List, [], ◌∷◌, length, inl, inr, sym, ◌∙◌, subst, arith}
-use Rattle.std.proofs.lemmas.Bool.{ltb-true, lt-ltb, eqb-true, eqb-false, eq-eqb, ne_eqb, and_parts, and_from, not-true}
-use Rattle.mat_sets.specs.Sets.{is_member, IsRising, RisesFrom, IsSet, all_below}
-use Rattle.mat_sets.specs.SetTests.{is_set}
-use Rattle.mat_sets.specs.Search.{those_below}
-use Rattle.mat_sets.specs.Graphs.{Walk}
-use Rattle.mat_sets.proofs.Members.{RisesFrom-weaken, is_member-head, member_from, some_from_member}
-use Rattle.mat_sets.proofs.Search.{IsSet-those_below, is_member-those_below}
-use Rattle.mat_sets.proofs.SetTests.{IsSet-from_test}
-use Rattle.mat_sets.proofs.Subsets.{length-subset, same_size_subset}
-use Rattle.mat_sets.proofs.ListParts.{is_member-tail}
-use Rattle.mat_sets.proofs.Ground.{below_member, IsRising-all_below, IsSet-all_below}
+use Rattle.mat_graphic.proofs.Common.{◌≡◌, ◌≢◌, ℕ, suc, ◌<◌, ◌≤◌, Bool, true, eqb, ltb, List, [], ◌∷◌, length, inl, inr, sym, ◌∙◌, subst, arith, ltb-true, lt-ltb, eqb-true, eqb-false, eq-eqb, ne_eqb, and_parts, and_from, not-true, is_member, IsRising, RisesFrom, IsSet, all_below, is_set}
+use Rattle.mat_graphic.proofs.Common.{those_below, Walk, RisesFrom-weaken, is_member-head, member_from, some_from_member, IsSet-those_below, is_member-those_below, IsSet-from_test, length-subset, same_size_subset, is_member-tail, below_member, IsRising-all_below, IsSet-all_below, rank_is, IsForest}
+use Rattle.mat_graphic.proofs.Common.{is_forest, is_graphic, least_reached, number_of_components, least_merged, trail_of_same, least_merged-le, least_merged-fixed, graphic_laws, reaching_lower, is_member-reaching_lower, IsRising-reaching_lower, length-reaching_lower}
 use Rattle.mat_laws.specs.Ranks.{rank}
-use Rattle.mat_laws.proofs.RankLaws.{rank_is}
-use Rattle.mat_graphic.specs.Forests.{IsForest, is_forest, is_graphic, least_reached, number_of_components}
-use Rattle.mat_graphic.specs.Mergings.{least_merged}
-use Rattle.mat_graphic.specs.ComponentLaws.{trail_of_same, least_merged-le, least_merged-fixed}
-use Rattle.mat_graphic.specs.ForestLaws.{graphic_laws, reaching_lower, is_member-reaching_lower, IsRising-reaching_lower, length-reaching_lower}
 use Rattle.mat_graphic.proofs.ComponentCounts.{AreEndsBelow, least_reached-merged, rank_and_number}
 
 module _ (ends : ℕ → ℕ × ℕ) where

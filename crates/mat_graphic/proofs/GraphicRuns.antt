@@ -1,16 +1,7 @@
 -- A greedy run by one union-find: an edge enters a forest where its ends are in two components. The table is of the components of the set,
 -- whatever the order in which its members came, as the components are those of the members.
-use Rattle.std.proofs.Common.{◌≡◌, ℕ, ◌<◌, Bool, true, false, not, ◌&&◌, if◌then◌else◌, eqb, List, ◌∷◌, sym, ap}
-use Rattle.std.proofs.lemmas.Bool.{and_parts, and_from, eqb-true, eqb-false, not-true, not-false, false_from_ne_true}
-use Rattle.mat_sets.specs.Sets.{is_member, with_one}
-use Rattle.mat_sets.specs.SetTests.{is_set}
-use Rattle.mat_sets.proofs.Members.{IsRising-with_one, is_member-with_one}
-use Rattle.mat_sets.proofs.SetTests.{IsSet-from_test}
-use Rattle.mat_graphic.specs.Forests.{is_forest, is_graphic}
-use Rattle.mat_graphic.specs.Mergings.{least_merged}
-use Rattle.mat_graphic.specs.ComponentLaws.{least_merged-same, least_merged-within, member_within, trail_of_same}
-use Rattle.mat_graphic.specs.ForestLaws.{IsForest-from_test, is_graphic-with_one}
-use Rattle.mat_graphic.specs.ParentTables.{IsParentTable}
+use Rattle.mat_graphic.proofs.Common.{◌≡◌, ℕ, ◌<◌, Bool, true, false, not, ◌&&◌, if◌then◌else◌, eqb, List, ◌∷◌, sym, ap, and_parts, and_from, eqb-true, eqb-false, not-true, not-false, false_from_ne_true, is_member, with_one, is_set, IsRising-with_one, is_member-with_one, IsSet-from_test, is_forest}
+use Rattle.mat_graphic.proofs.Common.{is_graphic, least_merged, least_merged-same, least_merged-within, member_within, trail_of_same, IsForest-from_test, is_graphic-with_one, IsParentTable}
 use Rattle.mat_graphic.proofs.EdgeRows.{added-closed}
 use Rattle.mat_graphic.proofs.ParentTables.{IsParentTable-equal}
 

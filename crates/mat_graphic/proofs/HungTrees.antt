@@ -1,16 +1,7 @@
 -- A rooted forest gets one edge more. Outside the tree of its second end all vertices stay as they are, as two of them are in one component afterwards
 -- only if they were before; the tree itself is read from the second end on, first up to its root and then down.
-use Rattle.std.proofs.Common.{◌≡◌, ◌≢◌, ℕ, zero, suc, ◌+◌, ◌-◌, ◌<◌, ◌≤◌, min, Bool, true, false, ◌||◌, eqb, List, [], ◌∷◌, ◌++◌, length, get_or, ◌⊎◌, inl, inr, refl, sym, ap, ◌∙◌, subst, arith}
-use Rattle.std.proofs.lemmas.Bool.{both_ways, cases_Bool, cases_eq, cases_lt, eqb-true, eq-eqb, or_cases, or_left, or_right}
-use Rattle.mat_sets.specs.Graphs.{Joins}
-use Rattle.mat_sets.specs.Sets.{is_member}
-use Rattle.mat_sets.proofs.Members.{is_member-get_or, place_of_member}
-use Rattle.mat_sets.proofs.Truths.{same_truth}
-use Rattle.mat_graphic.specs.ComponentLaws.{least_merged-same, merged_cases}
-use Rattle.mat_graphic.specs.Hanging.{AreFlags, IsCopied, IsHung, IsNewEdge, IsTurned, StayApart}
-use Rattle.mat_graphic.specs.Mergings.{least_merged, merged}
-use Rattle.mat_graphic.specs.RootedForests.{IsRootedForest}
-use Rattle.mat_graphic.specs.TrailSearches.{IsFindable, IsFront, IsOrder, IsTree}
+use Rattle.mat_graphic.proofs.Common.{◌≡◌, ◌≢◌, ℕ, zero, suc, ◌+◌, ◌-◌, ◌<◌, ◌≤◌, min, Bool, true, false, ◌||◌, eqb, List, [], ◌∷◌, ◌++◌, length, get_or, ◌⊎◌, inl, inr, refl, sym, ap, ◌∙◌, subst, arith, both_ways, cases_Bool, cases_eq, cases_lt, eqb-true, eq-eqb, or_cases, or_left, or_right, Joins}
+use Rattle.mat_graphic.proofs.Common.{is_member, is_member-get_or, place_of_member, same_truth, least_merged-same, merged_cases, AreFlags, IsCopied, IsHung, IsNewEdge, IsTurned, StayApart, least_merged, merged, IsRootedForest, IsFindable, IsFront, IsOrder, IsTree}
 use Rattle.mat_graphic.specs.declared.rooted_forest.RootedForest.{RootedForest}
 use Rattle.mat_graphic.proofs.Roots.{component_at, roots-differ, same-before}
 use Rattle.mat_graphic.proofs.TrailScans.{IsFront-member, IsFront-trans}

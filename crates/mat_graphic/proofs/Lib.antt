@@ -1,3 +1,4 @@
+pub mod Common
 pub mod ParentTables
 pub mod Uniting
 pub mod ComponentCounts

@@ -1,11 +1,7 @@
 -- Tables of parents: what each loop and each change of an entry keeps, for whatever components the table is of.
-use Rattle.std.proofs.Common.{◌≡◌, ℕ, ◌+◌, ◌<◌, ◌≤◌, ◌≢◌, min, max, List, [], ◌∷◌, ◌++◌, length, get_or, set, ◌⊎◌, inl, inr, refl, sym, ap, ◌∙◌, subst, arith, get_or-set_other, get_or-set_same, length-set, length-append}
-use Rattle.std.proofs.lemmas.List.{set-get_or, get_or_append_left}
+use Rattle.mat_graphic.proofs.Common.{◌≡◌, ℕ, ◌+◌, ◌<◌, ◌≤◌, ◌≢◌, min, max, List, [], ◌∷◌, ◌++◌, length, get_or, set, ◌⊎◌, inl, inr, refl, sym, ap, ◌∙◌, subst, arith, get_or-set_other, get_or-set_same, length-set, length-append, set-get_or, get_or_append_left, cases_eq, cases_lt, merged}
+use Rattle.mat_graphic.proofs.Common.{merged_cases, merged-first, merged-second, merged-fixed, merged-same, IsDescending, IsParentTable}
 use Rattle.std.proofs.Math.Seq.{get_or-append_seam}
-use Rattle.std.proofs.lemmas.Bool.{cases_eq, cases_lt}
-use Rattle.mat_graphic.specs.Mergings.{merged}
-use Rattle.mat_graphic.specs.ComponentLaws.{merged_cases, merged-first, merged-second, merged-fixed, merged-same}
-use Rattle.mat_graphic.specs.ParentTables.{IsDescending, IsParentTable}
 
 -- an entry after a change at i
 at_set : (xs : List ℕ) (i u k : ℕ) → i < length xs

@@ -1,10 +1,5 @@
 -- From a place up to the root of its tree: each step stays in one component, and two roots are in two components.
-use Rattle.std.proofs.Common.{◌≡◌, ℕ, ◌<◌, true, eqb, List, [], ◌∷◌, length, get_or, inl, inr, refl, sym, ap, ◌∙◌, arith}
-use Rattle.std.proofs.lemmas.Bool.{cases_lt, cases_eq, eq-eqb, ne_eqb, eqb-true}
-use Rattle.mat_sets.specs.Sets.{is_member}
-use Rattle.mat_graphic.specs.Mergings.{least_merged}
-use Rattle.mat_graphic.specs.ComponentLaws.{member_within, walk_same}
-use Rattle.mat_graphic.specs.TrailSearches.{IsTree}
+use Rattle.mat_graphic.proofs.Common.{◌≡◌, ℕ, ◌<◌, true, eqb, List, [], ◌∷◌, length, get_or, inl, inr, refl, sym, ap, ◌∙◌, arith, cases_lt, cases_eq, eq-eqb, ne_eqb, eqb-true, is_member, least_merged, member_within, walk_same, IsTree}
 
 -- the component of the vertex at a place
 abbrev pub component_at : (ℕ → ℕ × ℕ) → List ℕ → List ℕ → ℕ → ℕ

@@ -1,19 +1,8 @@
 -- The search that roots the trees of a forest: going through the places of a vertex, and asking each found vertex once for its edges. What was
 -- found when all were asked holds both ends of an edge or none, so the next root is in another component.
-use Rattle.std.proofs.Common.{◌≡◌, ℕ, suc, ◌+◌, ◌-◌, ◌<◌, ◌≤◌, ◌≢◌, true, false, eqb, ltb, List, [], ◌∷◌, length, get_or, Option, Some, None, is_some, inl, inr, refl, sym, ap, ◌∙◌, subst, arith}
-use Rattle.std.proofs.lemmas.Bool.{cases_lt, eqb-true, ltb-true, and_parts, or_right, both_ways}
-use Rattle.std.proofs.lemmas.List.{get_or_default}
-use Rattle.mat_sets.specs.Sets.{is_member, AllBelow, IsRising}
-use Rattle.mat_sets.specs.Search.{IsNextFrom}
-use Rattle.mat_sets.specs.Graphs.{Joins, Walk}
-use Rattle.mat_sets.proofs.Members.{is_member-get_or, is_member-head, members_by_place, place_of_member}
-use Rattle.mat_sets.proofs.Ground.{AllBelow-from_members, length-distinct_below}
-use Rattle.mat_sets.proofs.Sums.{AllBelow-at}
-use Rattle.mat_sets.proofs.ListParts.{AreDistinct-index}
-use Rattle.mat_sets.proofs.Truths.{same_truth}
-use Rattle.mat_graphic.specs.Mergings.{least_merged}
-use Rattle.mat_graphic.specs.ComponentLaws.{trail_of_same}
-use Rattle.mat_graphic.specs.TrailSearches.{AreJoined, stands_at, AreEnds, IsExploring, IsFindable, IsFront, IsOrder, IsTree}
+use Rattle.mat_graphic.proofs.Common.{◌≡◌, ℕ, suc, ◌+◌, ◌-◌, ◌<◌, ◌≤◌, ◌≢◌, true, false, eqb, ltb, List, [], ◌∷◌, length, get_or, Option, Some, None, is_some, inl, inr, refl, sym, ap, ◌∙◌, subst, arith, cases_lt, eqb-true, ltb-true, and_parts, or_right, both_ways, get_or_default, is_member}
+use Rattle.mat_graphic.proofs.Common.{AllBelow, IsRising, IsNextFrom, Joins, Walk, is_member-get_or, is_member-head, members_by_place, place_of_member, AllBelow-from_members, length-distinct_below, AllBelow-at, AreDistinct-index, same_truth, least_merged, trail_of_same, AreJoined, stands_at}
+use Rattle.mat_graphic.proofs.Common.{AreEnds, IsExploring, IsFindable, IsFront, IsOrder, IsTree}
 
 -- an item that was read
 pub item_of : (xs : List ℕ) (i x : ℕ) → i < length xs → x ≡ get_or xs i x → get_or xs i 0 ≡ x

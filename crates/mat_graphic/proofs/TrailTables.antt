@@ -1,15 +1,9 @@
 -- The tables of the search that roots the trees of a forest: the places of each vertex in a list, the ends of the members of a set, and the
 -- vertices found so far.
-use Rattle.std.proofs.Common.{is_some, ◌≡◌, ℕ, suc, ◌<◌, ◌≤◌, ◌≢◌, Bool, true, false, ◌||◌, eqb, ltb, List, [], ◌∷◌, ◌++◌, length, get_or, set, Option, Some, None, ◌⊎◌, inl, inr, refl, sym, ap, ◌∙◌, subst, arith, get_or-set_other, get_or-set_same, length-set, length-append}
-use Rattle.std.proofs.lemmas.Bool.{cases_eq, cases_lt, eq-eqb, ne_eqb, lt-ltb, both_ways, false_from_ne_true, false≢true, and_right, or_cases, or_left, or_right}
-use Rattle.std.proofs.lemmas.List.{get_or_append_left, get_or_default}
+use Rattle.mat_graphic.proofs.Common.{is_some, ◌≡◌, ℕ, suc, ◌<◌, ◌≤◌, ◌≢◌, Bool, true, false, ◌||◌, eqb, ltb, List, [], ◌∷◌, ◌++◌, length, get_or, set, Option, Some, None, ◌⊎◌, inl, inr, refl, sym, ap, ◌∙◌, subst, arith, get_or-set_other, get_or-set_same, length-set, length-append, cases_eq}
+use Rattle.mat_graphic.proofs.Common.{cases_lt, eq-eqb, ne_eqb, lt-ltb, both_ways, false_from_ne_true, false≢true, and_right, or_cases, or_left, or_right, get_or_append_left, get_or_default, is_member, AllBelow, IsNextFrom, Joins, is_member-append, is_member-get_or, place_of_member, least_merged}
+use Rattle.mat_graphic.proofs.Common.{stands_at, ArePlaces, IsFindable, IsOrder, IsTree}
 use Rattle.std.proofs.Math.Seq.{get_or-append_seam}
-use Rattle.mat_sets.specs.Sets.{is_member, AllBelow}
-use Rattle.mat_sets.specs.Search.{IsNextFrom}
-use Rattle.mat_sets.specs.Graphs.{Joins}
-use Rattle.mat_sets.proofs.Members.{is_member-append, is_member-get_or, place_of_member}
-use Rattle.mat_graphic.specs.Mergings.{least_merged}
-use Rattle.mat_graphic.specs.TrailSearches.{stands_at, ArePlaces, IsFindable, IsOrder, IsTree}
 
 stands_here : (list : List ℕ) (i : ℕ) → i < length list → stands_at list (get_or list i 0) i ≡ true
 stands_here list i l = rw (lt-ltb i (length list) l, eq-eqb (get_or list i 0) (get_or list i 0) refl) refl

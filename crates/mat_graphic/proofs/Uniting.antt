@@ -1,16 +1,7 @@
 -- Loops over the edges of a set, from the last edge to the first: each edge merges the components of its ends in the table, and the edges so far
 -- are a forest as long as they were two.
-use Rattle.std.proofs.Common.{◌≡◌, ℕ, suc, zero, ◌+◌, ◌≤◌, Bool, true, false, not, eqb, List, [], ◌∷◌, length, get_or, drop, refl, sym, ap, ◌∙◌, subst, arith}
-use Rattle.std.proofs.lemmas.Bool.{eqb-true, eqb-false, not-true, not-false, false_from_ne_true}
-use Rattle.mat_sets.specs.Sets.{IsRising, RisesFrom, IsSubset}
-use Rattle.mat_sets.proofs.Members.{RisesFrom-suffix, missing_below}
-use Rattle.mat_sets.proofs.Subsets.{IsSubset-refl, IsSubset-trans}
-use Rattle.std.proofs.lemmas.List.{drop_all, drop_more}
-use Rattle.mat_graphic.specs.Forests.{IsForest, is_forest}
-use Rattle.mat_graphic.specs.Mergings.{merged, least_merged}
-use Rattle.mat_graphic.specs.ComponentLaws.{in_tail}
-use Rattle.mat_graphic.specs.ForestLaws.{IsForest-none, IsForest-more, IsForest-subset, IsSubset-tail, apart_of_forest, IsForest-from_test}
-use Rattle.mat_graphic.specs.ParentTables.{IsParentTable}
+use Rattle.mat_graphic.proofs.Common.{◌≡◌, ℕ, suc, zero, ◌+◌, ◌≤◌, Bool, true, false, not, eqb, List, [], ◌∷◌, length, get_or, drop, refl, sym, ap, ◌∙◌, subst, arith, eqb-true, eqb-false, not-true, not-false, false_from_ne_true, IsRising, RisesFrom, IsSubset, RisesFrom-suffix, missing_below}
+use Rattle.mat_graphic.proofs.Common.{IsSubset-refl, IsSubset-trans, drop_all, drop_more, IsForest, is_forest, merged, least_merged, in_tail, IsForest-none, IsForest-more, IsForest-subset, IsSubset-tail, apart_of_forest, IsForest-from_test, IsParentTable}
 use Rattle.mat_graphic.proofs.ParentTables.{IsParentTable-equal}
 
 -- ---- the last items of a set

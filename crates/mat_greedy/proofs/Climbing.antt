@@ -1,26 +1,14 @@
 -- What the greedy loop keeps: the set is heaviest of its size, and so is each set so far; no element that was passed can be added,
 -- so the next one is a heaviest that can. In the end no element at all can be added: the last size is the rank.
-use Rattle.std.proofs.Common.{◌≡◌, ℕ, zero, suc, ◌+◌, ◌<◌, ◌≤◌, Bool, true, false, not, ◌&&◌, if◌then◌else◌, List, []}
-use Rattle.std.proofs.Common.{◌∷◌, ◌++◌, length, length-append, get_or, refl, sym, ap, ◌∙◌, subst, arith, inl, inr}
-use Rattle.std.proofs.lemmas.Bool.{cases_lt, cases_order, both_ways, and_parts, not-true}
-use Rattle.std.proofs.lemmas.Int.{ints}
-use Rattle.mat_sets.specs.Sets.{is_member, with_one, all_below}
+use Rattle.mat_greedy.proofs.Common.{◌≡◌, ℕ, zero, suc, ◌+◌, ◌<◌, ◌≤◌, Bool, true, false, not, ◌&&◌, if◌then◌else◌, List, [], ◌∷◌, ◌++◌, length, length-append, get_or, refl, sym, ap, ◌∙◌, subst, arith, inl, inr, cases_lt, cases_order, both_ways, and_parts, not-true, ints, is_member, with_one}
+use Rattle.mat_greedy.proofs.Common.{all_below, AllBelow-member, IsRising-all_below, ◌≼◌, weight_at, Weight, pairs, IsMatroid, IsMaximal, rising, below, IsTracing, IsFallingOrder, AreHeaviestEach}
 use Rattle.mat_sets.proofs.Members.{place_of_member, set_members}
-use Rattle.mat_sets.proofs.Ground.{AllBelow-member, IsRising-all_below}
 use Rattle.mat_sets.proofs.Cardinalities.{length-with_one}
-use Rattle.mat_sets.specs.Weights.{◌≼◌, weight_at}
-use Rattle.mat_sets.specs.declared.weight.Weight.{Weight}
-use Rattle.mat_sets.proofs.WeightOrder.{pairs}
-use Rattle.mat_laws.specs.Matroids.{IsMatroid, IsMaximal}
 use Rattle.mat_laws.specs.Heaviest.{IsHeaviest}
-use Rattle.mat_laws.proofs.Independent.{rising, below}
 use Rattle.mat_laws.proofs.Growing.{IsGrowing, IsGrowing-start, IsGrowing-next, IsGrowing-end, maximal_from_none}
-use Rattle.mat_laws.proofs.GreedyRunTraces.{IsTracing}
 use Rattle.mat_laws.proofs.RankLaws.{rank-maximal}
 use Rattle.mat_laws.proofs.HeaviestSteps.{IsHeaviest-nil, IsHeaviest-with_one}
 use Rattle.mat_laws.proofs.Maximal.{IsMaximal-base}
-use Rattle.mat_greedy.specs.Order.{IsFallingOrder}
-use Rattle.mat_greedy.specs.Greedy.{AreHeaviestEach}
 
 -- heaviest of the independent sets of k elements
 abbrev pub IsHeaviestOf : (List ℕ → Bool) → (ℕ → Weight) → ℕ → List ℕ → Type 0

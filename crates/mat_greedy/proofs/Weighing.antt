@@ -1,25 +1,11 @@
 -- What the greedy loop keeps where only weights are kept: there are sets as the loop over sets keeps them, these are their weights,
 -- and the sum is the weight of the set.
-use Rattle.std.proofs.Common.{◌≡◌, ℕ, ◌+◌, ◌*◌, ◌^◌, ◌<◌, ◌≤◌, Bool, true, false, not, ◌&&◌, if◌then◌else◌}
-use Rattle.std.proofs.Common.{List, [], ◌∷◌, ◌++◌, length, map, get_or, refl, sym, ap, ◌∙◌, ℤ, ◌+ℤ◌, FitsSigned, arith}
+use Rattle.mat_greedy.proofs.Common.{◌≡◌, ℕ, ◌+◌, ◌*◌, ◌^◌, ◌<◌, ◌≤◌, Bool, true, false, not, ◌&&◌, if◌then◌else◌, List, [], ◌∷◌, ◌++◌, length, map, get_or, refl, sym, ap, ◌∙◌, ℤ, ◌+ℤ◌, FitsSigned, arith, and_parts, not-true, ints, map-append, is_member, with_one, ◌⊕◌, zero_weight, weight_at}
+use Rattle.mat_greedy.proofs.Common.{weight_sum, AreWeightsWithin, Weight, IsSet-length, weight_within_at, IsMatroid, rising, grown_along, IsTracing, IsTracing-start, IsTracing-next, traced, IsFallingOrder, AreHeaviestWeights}
 use Rattle.std.specs.Int.{w128}
-use Rattle.std.proofs.lemmas.Bool.{and_parts, not-true}
-use Rattle.std.proofs.lemmas.Int.{ints}
-use Rattle.std.proofs.lemmas.List.{map-append}
 use Rattle.mat_sets.specs.Limits.{largest_number, most_elements}
-use Rattle.mat_sets.specs.Sets.{is_member, with_one}
 use Rattle.mat_sets.specs.Sums.{sum_of, IsWithin}
-use Rattle.mat_sets.specs.Weights.{◌⊕◌, zero_weight, weight_at, weight_sum, AreWeightsWithin}
-use Rattle.mat_sets.specs.declared.weight.Weight.{Weight}
-use Rattle.mat_sets.proofs.Ground.{IsSet-length}
-use Rattle.mat_sets.proofs.WeightOrder.{weight_within_at}
 use Rattle.mat_sets.proofs.WeightSums.{weight_sum-with_one}
-use Rattle.mat_laws.specs.Matroids.{IsMatroid}
-use Rattle.mat_laws.proofs.Independent.{rising}
-use Rattle.mat_laws.specs.GreedyRuns.{grown_along}
-use Rattle.mat_laws.proofs.GreedyRunTraces.{IsTracing, IsTracing-start, IsTracing-next, traced}
-use Rattle.mat_greedy.specs.Order.{IsFallingOrder}
-use Rattle.mat_greedy.specs.Greedy.{AreHeaviestWeights}
 use Rattle.mat_greedy.proofs.Climbing.{IsClimbing, IsClimbing-start, IsClimbing-next, IsClimbing-end}
 
 -- ---- sums that fit

@@ -1,16 +1,13 @@
 -- A verdict is not both yes and no; and why an answer is not found right is why its file has none.
-use Rattle.std.proofs.Common.{◌≡◌, ℕ, List, Option, Result, Ok, Err, sym, ap, ◌∙◌}
+use Rattle.mat_judge.proofs.Common.{◌≡◌, ℕ, List, Option, Result, Ok, Err, sym, ap, ◌∙◌, IfErr, IfSome, failure_in, IsCertified, IsNotRight, IsNotFoundRight}
 use Rattle.std.proofs.lemmas.Option.{none-some}
-use Rattle.std.specs.Prelude.{IfErr, IfSome}
 use Rattle.std.specs.Result.{result_and}
 use Rattle.mat_cert.specs.Certificates.{Certificate}
 use Rattle.mat_problem.specs.Instances.{Instance}
 use Rattle.mat_check.specs.Clauses.{failure_at}
-use Rattle.mat_check.specs.Views.{failure_in}
 use Rattle.mat_check.specs.declared.reason.Reason.{Reason}
 use Rattle.mat_check.specs.declared.verdict.Verdict.{Verdict}
 use Rattle.mat_check.specs.declared.verdict.Verdict.TheVariants.{Yes, No}
-use Rattle.mat_judge.specs.Certified.{IsCertified, IsNotRight, IsNotFoundRight}
 use Rattle.mat_judge.specs.declared.certified.NotRight.{NotRight}
 use Rattle.mat_judge.specs.declared.certified.NotRight.TheVariants as not_right
 use Rattle.mat_judge.proofs.Told.{if_told}

@@ -1,9 +1,5 @@
 -- A note is written whole where the sink does not fail, and else the count of faults rose.
-use Rattle.std.proofs.Common.{ℕ, ◌≤◌, List, Option, Result, Ok, Err}
-use Rattle.std.specs.Prelude.{OnOk, OnErr}
-use Rattle.mat_shelf.specs.Faults.{Rose}
-use Rattle.mat_shelf.specs.Writing.{Appended, AppendedProperPrefix}
-use Rattle.mat_shelf.proofs.WritingLemmas.{AppendedPrefix-whole, AppendedPrefix-proper}
+use Rattle.mat_judge.proofs.Common.{ℕ, ◌≤◌, List, Option, Result, Ok, Err, OnOk, OnErr, Rose, Appended, AppendedProperPrefix, AppendedPrefix-whole, AppendedPrefix-proper}
 use Rattle.mat_judge.specs.Notes.{IsNoted}
 
 pub noted : {E : Type 0} (result : Result (Unit {0}) E) (note : List ℕ) (old : Option (List ℕ)) (before : ℕ) (new : Option (List ℕ)) (now : ℕ)

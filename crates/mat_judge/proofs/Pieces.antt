@@ -1,11 +1,7 @@
 -- Pieces that are written one after the other: where the sink fails, the pieces before and a proper prefix of the next are a proper
 -- prefix of them all.
-use Rattle.std.proofs.Common.{◌≡◌, ℕ, ◌+◌, ◌<◌, List, ◌++◌, length, take, drop, get_or, Option, sym, ap, subst, ◌∙◌}
-use Rattle.std.specs.Prelude.{flat_map}
-use Rattle.std.proofs.lemmas.List.{take-append-drop, drop_more}
+use Rattle.mat_judge.proofs.Common.{◌≡◌, ℕ, ◌+◌, ◌<◌, List, ◌++◌, length, take, drop, get_or, Option, sym, ap, subst, ◌∙◌, flat_map, take-append-drop, drop_more, Appended, AppendedProperPrefix, AppendedProperPrefix-then, AppendedProperPrefix-append}
 use Rattle.std.proofs.lemmas.List.Concat.{flat_map-append}
-use Rattle.mat_shelf.specs.Writing.{Appended, AppendedProperPrefix}
-use Rattle.mat_shelf.proofs.WritingLemmas.{AppendedProperPrefix-then, AppendedProperPrefix-append}
 
 flat_map-at : {X : Type 0} (f : X → List ℕ) (xs : List X) (i : ℕ) (d : X) → i < length xs
     → flat_map f xs ≡ flat_map f (take i xs) ++ (f (get_or xs i d) ++ flat_map f (drop (i + 1) xs))

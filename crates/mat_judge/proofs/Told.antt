@@ -1,8 +1,5 @@
 -- What is known of a file where the shelf tells what it holds.
-use Rattle.std.proofs.Common.{ℕ, ◌≤◌, List, Option, Some, None, inl, inr, arith}
-use Rattle.std.specs.Prelude.{IfSome, IsSome, IsSomeAnd}
-use Rattle.mat_shelf.specs.Faults.{Rose}
-use Rattle.mat_judge.specs.WholeFiles.{IsUnread}
+use Rattle.mat_judge.proofs.Common.{ℕ, ◌≤◌, List, Option, Some, None, inl, inr, arith, IfSome, IsSome, IsSomeAnd, Rose, IsUnread}
 use Rattle.mat_judge.specs.declared.reading.Unread.{Unread}
 use Rattle.mat_judge.specs.declared.reading.Unread.TheVariants as unread
 

@@ -1,17 +1,7 @@
 -- What a ladder proves. A set weighs what its two parts of the weights add up to, and a rung's set is heaviest in each part, so it is
 -- heaviest in the sum. A common independent set lies in part outside the cut and in part inside it, and the ranks bound both parts.
-use Rattle.std.proofs.Common.{◌≡◌, ℕ, suc, pred, ◌<◌, ◌≤◌, Bool, true, List, length, sym, ◌∙◌, arith}
-use Rattle.std.proofs.lemmas.Int.{ints}
-use Rattle.mat_sets.specs.Sets.{IsSet, minus, intersection, all_below}
-use Rattle.mat_sets.proofs.Members.{IsRising-minus, IsRising-intersection}
-use Rattle.mat_sets.proofs.Subsets.{minus-both, minus-IsSubset, intersection-left, intersection-right}
-use Rattle.mat_sets.proofs.Cardinalities.{length-minus-intersection}
-use Rattle.mat_sets.proofs.WeightSums.{weight_sum-plus}
-use Rattle.mat_sets.proofs.Ground.{below_member, IsRising-all_below, IsSubset-all_below}
-use Rattle.mat_sets.specs.Weights.{◌⊕◌, weight, weight_at}
-use Rattle.mat_sets.specs.declared.weight.Weight.{Weight}
-use Rattle.mat_sets.proofs.WeightOrder.{pairs}
-use Rattle.mat_laws.specs.Matroids.{IsMatroid}
+use Rattle.mat_laws.proofs.Common.{◌≡◌, ℕ, suc, pred, ◌<◌, ◌≤◌, Bool, true, List, length, sym, ◌∙◌, arith, ints, IsSet, minus, intersection, all_below, IsRising-minus, IsRising-intersection, minus-both, minus-IsSubset, intersection-left, intersection-right, length-minus-intersection}
+use Rattle.mat_laws.proofs.Common.{weight_sum-plus, below_member, IsRising-all_below, IsSubset-all_below, ◌⊕◌, weight, weight_at, Weight, pairs, IsMatroid}
 use Rattle.mat_laws.specs.Ladders.{IsRung, IsCut}
 use Rattle.mat_laws.proofs.RankLaws.{rank_is}
 use Rattle.mat_laws.specs.CommonSets.{IsHeaviestCommon}

@@ -1,17 +1,9 @@
 -- The exchanges at an independent set I are turned: the elements outside it enter, one after the other, the columns of the members
 -- whose place they can take.
-use Rattle.std.proofs.Common.{◌≡◌, ℕ, ◌+◌, ◌<◌, Bool, true, false, not, ◌&&◌, ◌||◌, eqb, ltb, List, [], length, get_or, replicate}
-use Rattle.std.proofs.Common.{inl, inr, refl, sym, ap, ◌∙◌, arith}
-use Rattle.std.proofs.lemmas.Bool.{and_left, cases_lt, eqb-true, le-ltb}
-use Rattle.std.proofs.lemmas.List.{get_or_past, get_or-replicate, length-replicate}
+use Rattle.mat_laws.proofs.Common.{◌≡◌, ℕ, ◌+◌, ◌<◌, Bool, true, false, not, ◌&&◌, ◌||◌, eqb, ltb, List, [], length, get_or, replicate, inl, inr, refl, sym, ap, ◌∙◌, arith, and_left, cases_lt, eqb-true, le-ltb, get_or_past, get_or-replicate, length-replicate, is_member, with_one, without_one}
+use Rattle.mat_laws.proofs.Common.{AllBelow, is_member-filter, AllBelow-filter, AllBelow-member, IsMatroid, row_of, Exchange}
 use Rattle.std.proofs.lemmas.Bool.Decides.{nat_tests}
 use Rattle.mat_sets.specs.Rows.{AreEmptied}
-use Rattle.mat_sets.specs.Sets.{is_member, with_one, without_one, AllBelow}
-use Rattle.mat_sets.proofs.Members.{is_member-filter}
-use Rattle.mat_sets.proofs.Ground.{AllBelow-filter, AllBelow-member}
-use Rattle.mat_laws.specs.Matroids.{IsMatroid}
-use Rattle.mat_laws.specs.Exchanges.{row_of}
-use Rattle.mat_laws.specs.declared.exchange.Exchange.{Exchange}
 use Rattle.mat_laws.proofs.Rows.{exchanged, row-with}
 use Rattle.mat_laws.proofs.Independent.{below}
 use Rattle.mat_laws.specs.Columns.{takes_place}

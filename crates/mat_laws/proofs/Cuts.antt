@@ -1,13 +1,7 @@
 -- Where a search for an exchange is stuck, the parts of an independent set are maximal in the two sides of a cut. What x can take the
 -- place of lies in the part, and x cannot be added to it; so x cannot be added to the part.
-use Rattle.std.proofs.Common.{◌≡◌, ℕ, ◌+◌, Bool, true, false, not, List, length, sym, ◌∙◌, arith}
-use Rattle.std.proofs.lemmas.Bool.{and_parts, not-true}
-use Rattle.mat_sets.specs.Sets.{is_member, IsRising, IsSubset, with_one, without_one, minus, intersection}
-use Rattle.mat_sets.proofs.Members.{set_members, is_member-minus, IsRising-minus, IsRising-intersection}
-use Rattle.mat_sets.proofs.Subsets.{minus-both, minus-IsSubset, intersection-left, intersection-right}
-use Rattle.mat_sets.proofs.Cardinalities.{length-minus-intersection}
-use Rattle.mat_laws.specs.Matroids.{IsMatroid, IsMaximal}
-use Rattle.mat_laws.specs.Ranks.{rank}
+use Rattle.mat_laws.proofs.Common.{◌≡◌, ℕ, ◌+◌, Bool, true, false, not, List, length, sym, ◌∙◌, arith, and_parts, not-true, is_member, IsRising, IsSubset, with_one, without_one, minus, intersection, set_members, is_member-minus, IsRising-minus, IsRising-intersection, minus-both, minus-IsSubset}
+use Rattle.mat_laws.proofs.Common.{intersection-left, intersection-right, length-minus-intersection, IsMatroid, IsMaximal, rank}
 use Rattle.mat_laws.proofs.Independent.{rising, full_in_larger}
 use Rattle.mat_laws.proofs.RankLaws.{rank-maximal}
 use Rattle.mat_laws.proofs.Symmetric.{replaceable_by, is_member-replaceable, IsRising-replaceable, replaceable_full}

@@ -1,18 +1,9 @@
 -- What a greedy run ends with: an independent set that holds what it began with, lies in this and the order, and to which no element of
 -- the order can be added. So a run from the empty set ends with a maximal independent set of the elements of its order, and one whose order
 -- begins with an independent set takes all of that.
-use Rattle.std.proofs.Common.{◌≡◌, ℕ, Bool, true, false, not, ◌&&◌, ◌||◌, ◌⊎◌, cond, eqb, List, [], ◌∷◌, ◌++◌, length}
-use Rattle.std.proofs.Common.{inl, inr, refl, sym, ap, ◌∙◌, arith}
-use Rattle.std.proofs.lemmas.Bool.{cases_Bool, and_parts, both_ways, false_from_ne_true, eq-eqb, eqb-true, or_cases, or_left, or_right}
-use Rattle.mat_sets.specs.Sets.{is_member, AllBelow, AreDistinct, IsRising, IsSubset, with_one, minus, union}
-use Rattle.mat_sets.proofs.Members.{is_member-append, is_member-minus, is_member-union, is_member-with_one, IsRising-minus, IsRising-with_one}
-use Rattle.mat_sets.proofs.Subsets.{IsSubset-refl, IsSubset-trans, IsSubset-with_one, with_one-IsSubset, minus-IsSubset}
-use Rattle.mat_sets.proofs.Subsets.{same_size_subset, subsets_equal}
-use Rattle.mat_sets.proofs.ListParts.{AreDistinct-append}
-use Rattle.mat_sets.proofs.Ground.{AllBelow-append, AllBelow-subset, AreDistinct-rising}
-use Rattle.mat_sets.proofs.DisjointSets.{minus_parts, with_one-holds}
-use Rattle.mat_laws.specs.Matroids.{IsMatroid, IsMaximal}
-use Rattle.mat_laws.specs.GreedyRuns.{grown_by, grown_along}
+use Rattle.mat_laws.proofs.Common.{◌≡◌, ℕ, Bool, true, false, not, ◌&&◌, ◌||◌, ◌⊎◌, cond, eqb, List, [], ◌∷◌, ◌++◌, length, inl, inr, refl, sym, ap, ◌∙◌, arith, cases_Bool, and_parts, both_ways, false_from_ne_true, eq-eqb, eqb-true, or_cases, or_left, or_right, is_member, AllBelow, AreDistinct}
+use Rattle.mat_laws.proofs.Common.{IsRising, IsSubset, with_one, minus, union, is_member-append, is_member-minus, is_member-union, is_member-with_one, IsRising-minus, IsRising-with_one, IsSubset-refl, IsSubset-trans, IsSubset-with_one, with_one-IsSubset, minus-IsSubset, same_size_subset}
+use Rattle.mat_laws.proofs.Common.{subsets_equal, AreDistinct-append, AllBelow-append, AllBelow-subset, AreDistinct-rising, minus_parts, with_one-holds, IsMatroid, IsMaximal, grown_by, grown_along}
 use Rattle.mat_laws.proofs.Independent.{rising, full_in_larger}
 
 pub grown_along-append : (p : List ℕ → Bool) (I xs ys : List ℕ) → grown_along p I (xs ++ ys) ≡ grown_along p (grown_along p I xs) ys

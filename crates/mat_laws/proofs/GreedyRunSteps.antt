@@ -1,10 +1,5 @@
 -- A greedy run, element after element: what is left of the order leads from the set so far to the set in the end.
-use Rattle.std.proofs.Common.{◌≡◌, ℕ, ◌+◌, ◌<◌, ◌≤◌, Bool, true, false, not, ◌&&◌, if◌then◌else◌, List, []}
-use Rattle.std.proofs.Common.{◌∷◌, length, get_or, drop, refl, sym, ap, ◌∙◌}
-use Rattle.std.proofs.lemmas.Bool.{and_parts}
-use Rattle.std.proofs.lemmas.List.{drop_all, drop_more}
-use Rattle.mat_sets.specs.Sets.{is_member, with_one}
-use Rattle.mat_laws.specs.GreedyRuns.{grown_along}
+use Rattle.mat_laws.proofs.Common.{◌≡◌, ℕ, ◌+◌, ◌<◌, ◌≤◌, Bool, true, false, not, ◌&&◌, if◌then◌else◌, List, [], ◌∷◌, length, get_or, drop, refl, sym, ap, ◌∙◌, and_parts, drop_all, drop_more, is_member, with_one, grown_along}
 
 -- the set has come from the empty set over the first i elements of the order
 pub record IsRunning (p : List ℕ → Bool) (order : List ℕ) (i : ℕ) (set : List ℕ) : Type 0 where

@@ -1,15 +1,7 @@
 -- A greedy run told again by what it ended with: along an order in which no element stands twice, each element was added exactly where it
 -- is in the set at the end, since no later one is that element.
-use Rattle.std.proofs.Common.{◌≡◌, ℕ, ◌+◌, ◌<◌, Bool, true, false, not, ◌&&◌, if◌then◌else◌, eqb, List, [], ◌∷◌}
-use Rattle.std.proofs.Common.{length, get_or, drop, inl, inr, refl, subst, sym, ap, ◌∙◌}
-use Rattle.std.proofs.lemmas.Bool.{cases_Bool, both_ways, false_from_ne_true, or_cases, or_from}
-use Rattle.std.proofs.lemmas.List.{drop_more}
-use Rattle.mat_sets.specs.Sets.{is_member, AreDistinct, with_one}
-use Rattle.mat_sets.proofs.Members.{is_member-head, is_member-with_one}
-use Rattle.mat_sets.proofs.ListParts.{is_member-tail, member_differs}
-use Rattle.mat_sets.proofs.DisjointSets.{with_one-holds}
-use Rattle.mat_laws.specs.Matroids.{IsMatroid}
-use Rattle.mat_laws.specs.GreedyRuns.{grown_by, grown_along}
+use Rattle.mat_laws.proofs.Common.{◌≡◌, ℕ, ◌+◌, ◌<◌, Bool, true, false, not, ◌&&◌, if◌then◌else◌, eqb, List, [], ◌∷◌, length, get_or, drop, inl, inr, refl, subst, sym, ap, ◌∙◌, cases_Bool, both_ways, false_from_ne_true, or_cases, or_from, drop_more, is_member, AreDistinct, with_one, is_member-head}
+use Rattle.mat_laws.proofs.Common.{is_member-with_one, is_member-tail, member_differs, with_one-holds, IsMatroid, grown_by, grown_along}
 use Rattle.mat_laws.proofs.GreedyRunSteps.{IsRunning, IsRunning-next}
 use Rattle.mat_laws.proofs.GreedyRunSets.{grown_by-passes, run_ends}
 

@@ -1,11 +1,7 @@
 -- What growing keeps, element by element of a set X: the set stays independent and holds what it began with, and no element of X that
 -- was passed can be added. In the end the set is a maximal independent subset.
-use Rattle.std.proofs.Common.{◌≡◌, ℕ, ◌+◌, ◌<◌, ◌≤◌, Bool, true, false, not, ◌&&◌, if◌then◌else◌, List, [], length, get_or, refl, subst, sym, ap, ◌∙◌, inl, inr, arith}
-use Rattle.std.proofs.lemmas.Bool.{cases_lt, both_ways, and_parts, or_cases}
-use Rattle.mat_sets.specs.Sets.{is_member, IsSubset, with_one, union}
-use Rattle.mat_sets.proofs.Members.{set_members, is_member-union, is_member-get_or, place_of_member}
-use Rattle.mat_sets.proofs.Subsets.{IsSubset-refl, IsSubset-trans, IsSubset-with_one, with_one-IsSubset, union-left}
-use Rattle.mat_laws.specs.Matroids.{IsMatroid, IsMaximal}
+use Rattle.mat_laws.proofs.Common.{◌≡◌, ℕ, ◌+◌, ◌<◌, ◌≤◌, Bool, true, false, not, ◌&&◌, if◌then◌else◌, List, [], length, get_or, refl, subst, sym, ap, ◌∙◌, inl, inr, arith, cases_lt, both_ways, and_parts, or_cases, is_member, IsSubset, with_one, union, set_members, is_member-union, is_member-get_or}
+use Rattle.mat_laws.proofs.Common.{place_of_member, IsSubset-refl, IsSubset-trans, IsSubset-with_one, with_one-IsSubset, union-left, IsMatroid, IsMaximal}
 use Rattle.mat_laws.proofs.Independent.{rising, full_in_larger}
 
 -- the set has grown from `from` over the first i members of `within`

@@ -1,15 +1,6 @@
 -- From a heaviest set to one of one more element. Each independent J of one more element has an e that can be added to I; J - e is
 -- as large as I, so it weighs no more than I, and J weighs no more than I and the heaviest element that can be added.
-use Rattle.std.proofs.Common.{◌≡◌, ℕ, suc, Bool, true, false, List, [], ◌∷◌, length, arith}
-use Rattle.std.proofs.lemmas.Int.{ints}
-use Rattle.mat_sets.specs.Sets.{is_member, with_one, without_one}
-use Rattle.mat_sets.specs.Weights.{zero_weight, ◌⊕◌, ◌≼◌, weight_sum}
-use Rattle.mat_sets.specs.declared.weight.Weight.{Weight}
-use Rattle.mat_sets.proofs.Cardinalities.{length-with_one, length-without_one}
-use Rattle.mat_sets.proofs.WeightSums.{weight_sum-with_one, weight_sum-without_one}
-use Rattle.mat_sets.proofs.WeightOrder.{pairs}
-use Rattle.mat_laws.specs.Matroids.{IsMatroid}
-use Rattle.mat_laws.specs.Heaviest.{IsHeaviest}
+use Rattle.mat_laws.proofs.Common.{◌≡◌, ℕ, suc, Bool, true, false, List, [], ◌∷◌, length, arith, ints, is_member, with_one, without_one, zero_weight, ◌⊕◌, ◌≼◌, weight_sum, Weight, length-with_one, length-without_one, weight_sum-with_one, weight_sum-without_one, pairs, IsMatroid, IsHeaviest}
 use Rattle.mat_laws.proofs.Independent.{rising, less_one}
 
 weightless : (w : ℕ → Weight) (X : List ℕ) → length X ≡ 0 → weight_sum w X ≼ zero_weight

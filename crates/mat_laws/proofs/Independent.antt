@@ -1,13 +1,6 @@
 -- First consequences of the laws: subsets, and growing to a size by repeated augmentation.
-use Rattle.std.proofs.Common.{◌≡◌, ℕ, suc, zero, ◌+◌, ◌-◌, ◌≤◌, Bool, true, false, ◌||◌, List, length, arith}
-use Rattle.std.proofs.lemmas.Bool.{both_ways, false_from_ne_true, or_left}
-use Rattle.mat_sets.specs.Sets.{is_member, IsRising, IsSubset, AllBelow, with_one, without_one}
-use Rattle.mat_sets.proofs.Members.{set_members, IsRising-with_one, IsRising-without_one}
-use Rattle.mat_sets.proofs.Changes.{with_one-both}
-use Rattle.mat_sets.proofs.Subsets.{IsSubset-refl, without_one-IsSubset}
-use Rattle.mat_sets.proofs.Ground.{length-complement}
-use Rattle.mat_sets.proofs.Cardinalities.{length-with_one}
-use Rattle.mat_laws.specs.Matroids.{IsMatroid}
+use Rattle.mat_laws.proofs.Common.{◌≡◌, ℕ, suc, zero, ◌+◌, ◌-◌, ◌≤◌, Bool, true, false, ◌||◌, List, length, arith, both_ways, false_from_ne_true, or_left, is_member, IsRising, IsSubset, AllBelow, with_one, without_one, set_members, IsRising-with_one, IsRising-without_one, with_one-both}
+use Rattle.mat_laws.proofs.Common.{IsSubset-refl, without_one-IsSubset, length-complement, length-with_one, IsMatroid}
 
 -- an independent set that holds I, lies in I ∪ J and has as many elements as J
 pub record IsGrown (independent : List ℕ → Bool) (I J set : List ℕ) : Type 0 where

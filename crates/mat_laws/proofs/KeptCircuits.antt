@@ -1,14 +1,8 @@
 -- The circuit C + x in I + x is the only one in J + x for each independent J that holds C (Oxley, Proposition 1.1.6): a member y of J outside C
 -- leaves C + x in J - y + x, and for y in C the independent C - y + x grows inside C ∪ J to the size of J, and so to J - y + x.
-use Rattle.std.proofs.Common.{◌≡◌, ℕ, Bool, true, false, ◌||◌, List, arith, refl, sym, ap, ◌∙◌}
-use Rattle.std.proofs.lemmas.Bool.{and_from, and_parts, both_ways, false_from_ne_true, true_from_ne_false}
+use Rattle.mat_laws.proofs.Common.{◌≡◌, ℕ, Bool, true, false, ◌||◌, List, arith, refl, sym, ap, ◌∙◌, and_from, and_parts, both_ways, false_from_ne_true, true_from_ne_false, is_member, IsRising, IsSubset, with_one, without_one, set_members, is_member-filter, RisesFrom-filter, IsRising-with_one}
+use Rattle.mat_laws.proofs.Common.{length-subset, same_size_subset, subsets_equal, length-exchange_one, IsMatroid, row_of}
 use Rattle.std.specs.List.{filter}
-use Rattle.mat_sets.specs.Sets.{is_member, IsRising, IsSubset, with_one, without_one}
-use Rattle.mat_sets.proofs.Members.{set_members, is_member-filter, RisesFrom-filter, IsRising-with_one}
-use Rattle.mat_sets.proofs.Subsets.{length-subset, same_size_subset, subsets_equal}
-use Rattle.mat_sets.proofs.Cardinalities.{length-exchange_one}
-use Rattle.mat_laws.specs.Matroids.{IsMatroid}
-use Rattle.mat_laws.specs.Exchanges.{row_of}
 use Rattle.mat_laws.proofs.Independent.{rising, full_in_larger, grow_to_size}
 use Rattle.mat_laws.proofs.Symmetric.{replaceable_by, is_member-replaceable, IsRising-replaceable, replaceable_full, IsRising-exchange}
 use Rattle.mat_laws.proofs.Rows.{exchanged, row-addable, row-with, row_outside}

@@ -1,3 +1,4 @@
+pub mod Common
 pub mod Independent
 pub mod Maximal
 pub mod Growing

@@ -1,19 +1,7 @@
 -- A locally heaviest set is heaviest of its size. By induction on how many elements a rival J has outside I: take one, x, and exchange
 -- it symmetrically for some y of I. I - y + x weighs no more than I, so J - x + y weighs no less than J, and is nearer to I.
-use Rattle.std.proofs.Common.{◌≡◌, ℕ, suc, zero, Bool, true, false, not, List, [], ◌∷◌, length, refl, sym, ap, ◌∙◌, arith}
-use Rattle.std.proofs.lemmas.Bool.{and_parts, not-true}
-use Rattle.std.proofs.lemmas.Int.{ints}
-use Rattle.mat_sets.specs.Sets.{is_member, IsRising, IsSubset, with_one, without_one, minus}
-use Rattle.mat_sets.specs.Weights.{◌≼◌, weight_sum}
-use Rattle.mat_sets.specs.declared.weight.Weight.{Weight}
-use Rattle.mat_sets.proofs.Members.{set_members, same_members, is_member-head, is_member-minus, IsRising-minus, IsRising-without_one}
-use Rattle.mat_sets.proofs.Subsets.{same_size_subset}
-use Rattle.mat_sets.proofs.Cardinalities.{length-without_one, length-exchange_one}
-use Rattle.mat_sets.proofs.WeightSums.{weight_sum-exchange_one}
-use Rattle.mat_sets.proofs.WeightOrder.{pairs}
-use Rattle.mat_sets.proofs.DisjointSets.{no_member}
-use Rattle.mat_laws.specs.Matroids.{IsMatroid}
-use Rattle.mat_laws.specs.Heaviest.{IsHeaviest, IsLocallyHeaviest}
+use Rattle.mat_laws.proofs.Common.{◌≡◌, ℕ, suc, zero, Bool, true, false, not, List, [], ◌∷◌, length, refl, sym, ap, ◌∙◌, arith, and_parts, not-true, ints, is_member, IsRising, IsSubset, with_one, without_one, minus, ◌≼◌, weight_sum, Weight, set_members, same_members, is_member-head, is_member-minus}
+use Rattle.mat_laws.proofs.Common.{IsRising-minus, IsRising-without_one, same_size_subset, length-without_one, length-exchange_one, weight_sum-exchange_one, pairs, no_member, IsMatroid, IsHeaviest, IsLocallyHeaviest}
 use Rattle.mat_laws.proofs.Independent.{rising}
 use Rattle.mat_laws.proofs.Symmetric.{symmetric_exchange, IsRising-exchange, exchange-IsSubset}
 

@@ -1,11 +1,6 @@
 -- Maximal independent subsets of one set have one size, which is its rank; what spans a set bounds what is independent in it.
-use Rattle.std.proofs.Common.{◌≡◌, ℕ, ◌≤◌, Bool, true, false, ◌||◌, List, length, inl, inr, refl, arith, sym, ◌∙◌}
-use Rattle.std.proofs.lemmas.Bool.{cases_lt, or_cases, both_ways, false_from_ne_true, ltb-true, lt-ltb}
-use Rattle.mat_sets.specs.Sets.{all_below, is_member, IsSubset, with_one}
-use Rattle.mat_sets.proofs.Cardinalities.{length-with_one}
-use Rattle.mat_sets.proofs.Ground.{IsSubset-all_below, is_member-all_below}
-use Rattle.mat_laws.specs.Matroids.{IsBase, IsMatroid, IsMaximal}
-use Rattle.mat_laws.specs.Ranks.{IsRank}
+use Rattle.mat_laws.proofs.Common.{◌≡◌, ℕ, ◌≤◌, Bool, true, false, ◌||◌, List, length, inl, inr, refl, arith, sym, ◌∙◌, cases_lt, or_cases, both_ways, false_from_ne_true, ltb-true, lt-ltb, all_below, is_member, IsSubset, with_one, length-with_one, IsSubset-all_below, is_member-all_below, IsBase}
+use Rattle.mat_laws.proofs.Common.{IsMatroid, IsMaximal, IsRank}
 use Rattle.mat_laws.proofs.Independent.{below, rising}
 
 module _ {n : ℕ} {p : List ℕ → Bool} (laws : IsMatroid n p) where

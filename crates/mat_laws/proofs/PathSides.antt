@@ -3,18 +3,8 @@
 -- heavier than that y, which a heaviest set forbids, or as heavy, which would shorten the path. So the last in this order can be
 -- exchanged first, as in triangular exchange, and so on. No x can be added to I; so by span, of the larger I + source, only the
 -- source can be added to the exchanged set.
-use Rattle.std.proofs.Common.{◌≡◌, ◌≢◌, ℕ, suc, zero, ◌<◌, Bool, true, false, not, ◌||◌, ◌&&◌, eqb, List, [], ◌∷◌, length, ◌⊎◌, inl, inr, refl, sym, ap, ◌∙◌, subst, arith}
-use Rattle.std.proofs.lemmas.Bool.{cases_Bool, cases_order, cases_eq, eqb-true, ne_eqb, or_cases, or_from, false≢true, false_from_ne_true}
-use Rattle.std.proofs.lemmas.Int.{ints}
-use Rattle.mat_sets.specs.Sets.{is_member, IsRising, with_one, without_one}
-use Rattle.mat_sets.specs.Weights.{◌≺◌, ◌≼◌, weight_sum}
-use Rattle.mat_sets.specs.declared.weight.Weight.{Weight}
-use Rattle.mat_sets.proofs.Members.{set_members, same_members, is_member-with_one, IsRising-with_one}
-use Rattle.mat_sets.proofs.Cardinalities.{length-with_one, length-exchange_one}
-use Rattle.mat_sets.proofs.WeightSums.{weight_sum-with_one, weight_sum-exchange_one}
-use Rattle.mat_sets.proofs.WeightOrder.{pairs}
-use Rattle.mat_laws.specs.Matroids.{IsMatroid}
-use Rattle.mat_laws.specs.Heaviest.{IsHeaviest}
+use Rattle.mat_laws.proofs.Common.{◌≡◌, ◌≢◌, ℕ, suc, zero, ◌<◌, Bool, true, false, not, ◌||◌, ◌&&◌, eqb, List, [], ◌∷◌, length, ◌⊎◌, inl, inr, refl, sym, ap, ◌∙◌, subst, arith, cases_Bool, cases_order, cases_eq, eqb-true, ne_eqb, or_cases, or_from, false≢true, false_from_ne_true, ints, is_member}
+use Rattle.mat_laws.proofs.Common.{IsRising, with_one, without_one, ◌≺◌, ◌≼◌, weight_sum, Weight, set_members, same_members, is_member-with_one, IsRising-with_one, length-with_one, length-exchange_one, weight_sum-with_one, weight_sum-exchange_one, pairs, IsMatroid, IsHeaviest}
 use Rattle.mat_laws.proofs.Independent.{rising}
 use Rattle.mat_laws.proofs.Maximal.{span}
 use Rattle.mat_laws.proofs.LocallyHeaviest.{exchange_gains_nothing, addable_is_lightest}

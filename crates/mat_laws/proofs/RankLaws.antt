@@ -1,15 +1,7 @@
 -- The rank is the largest size of an independent subset; a largest one is maximal.
-use Rattle.std.proofs.Common.{◌≡◌, ℕ, suc, zero, ◌≤◌, Bool, true, ◌&&◌, eqb, List, [], length, inl, inr, refl, sym, ap, ◌∙◌, arith}
-use Rattle.std.proofs.lemmas.Bool.{cases_Bool, cases_eq, eqb-true, eq-eqb, both_ways, false_from_ne_true, and_parts, and_from}
-use Rattle.mat_sets.specs.Sets.{IsRising, IsSubset, all_below, with_one}
-use Rattle.mat_sets.proofs.Ground.{IsRising-all_below, IsSubset-all_below}
-use Rattle.mat_sets.proofs.Members.{IsRising-nil}
-use Rattle.mat_sets.proofs.Subsets.{length-subset, with_one-IsSubset}
-use Rattle.mat_sets.proofs.Cardinalities.{length-with_one}
-use Rattle.mat_sets.proofs.Search.{some_subset_gives, some_subset_from}
+use Rattle.mat_laws.proofs.Common.{◌≡◌, ℕ, suc, zero, ◌≤◌, Bool, true, ◌&&◌, eqb, List, [], length, inl, inr, refl, sym, ap, ◌∙◌, arith, cases_Bool, cases_eq, eqb-true, eq-eqb, both_ways, false_from_ne_true, and_parts, and_from, IsRising, IsSubset, all_below, with_one, IsRising-all_below}
+use Rattle.mat_laws.proofs.Common.{IsSubset-all_below, IsRising-nil, length-subset, with_one-IsSubset, length-with_one, some_subset_gives, some_subset_from, IsMatroid, IsMaximal, IsRank, largest_up_to, has_independent, rank}
 use Rattle.mat_sets.proofs.Steps.{IsSubset-none}
-use Rattle.mat_laws.specs.Matroids.{IsMatroid, IsMaximal}
-use Rattle.mat_laws.specs.Ranks.{IsRank, largest_up_to, has_independent, rank}
 use Rattle.mat_laws.proofs.Independent.{below, rising}
 use Rattle.mat_laws.proofs.Maximal.{IsRank-maximal, IsRank-unique}
 

@@ -1,17 +1,8 @@
 -- The members y of an independent set I for which x can be exchanged are collected one after the other, by questions about I + x - y, which
 -- is I - y + x.
-use Rattle.std.proofs.Common.{◌≡◌, ℕ, ◌+◌, ◌<◌, ◌≤◌, Bool, true, false, not, ◌&&◌, ◌||◌, cond, inl, inr, eqb, List, [], ◌∷◌, length}
-use Rattle.std.proofs.Common.{get_or, drop, refl, sym, ap, ◌∙◌}
-use Rattle.std.proofs.lemmas.Bool.{and_right, both_ways, cases_Bool, cond-false, cond-true, ne_eqb}
-use Rattle.std.proofs.lemmas.List.{drop_all, drop_more}
+use Rattle.mat_laws.proofs.Common.{◌≡◌, ℕ, ◌+◌, ◌<◌, ◌≤◌, Bool, true, false, not, ◌&&◌, ◌||◌, cond, inl, inr, eqb, List, [], ◌∷◌, length, get_or, drop, refl, sym, ap, ◌∙◌, and_right, both_ways, cases_Bool, cond-false, cond-true, ne_eqb, drop_all, drop_more, is_member, IsRising, with_one}
+use Rattle.mat_laws.proofs.Common.{without_one, Exchange, row_of, exchanges_at, is_member-filter, is_member-get_or, is_member-with_one, same_members, IsRising-nil, IsRising-with_one, RisesFrom-filter, without_one-with_one, or_none}
 use Rattle.std.specs.List.{filter}
-use Rattle.mat_sets.specs.Sets.{is_member, IsRising, with_one, without_one}
-use Rattle.mat_laws.specs.declared.exchange.Exchange.{Exchange}
-use Rattle.mat_laws.specs.Exchanges.{row_of}
-use Rattle.mat_laws.specs.TightPaths.{exchanges_at}
-use Rattle.mat_sets.proofs.Members.{is_member-filter, is_member-get_or, is_member-with_one, same_members, IsRising-nil, IsRising-with_one, RisesFrom-filter}
-use Rattle.mat_sets.proofs.Changes.{without_one-with_one}
-use Rattle.mat_sets.proofs.Truths.{or_none}
 
 -- whether x can be exchanged for y
 abbrev pub exchanged : (List ℕ → Bool) → List ℕ → ℕ → ℕ → Bool

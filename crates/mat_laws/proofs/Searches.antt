@@ -1,15 +1,7 @@
 -- What a search through all subsets or all elements tells: an independent set is heaviest of its size exactly where none beats it, and
 -- a base exactly where no element can be added.
-use Rattle.std.proofs.Common.{◌≡◌, ℕ, Bool, true, false, not, ◌&&◌, eqb, List, length, arith}
-use Rattle.std.proofs.lemmas.Bool.{and_parts, false_from_ne_true, eq-eqb, eqb-true, not-true, both_ways}
-use Rattle.mat_sets.specs.Sets.{is_member, with_one, all_below}
-use Rattle.mat_sets.specs.Weights.{is_below, weight_sum}
-use Rattle.mat_sets.specs.declared.weight.Weight.{Weight}
-use Rattle.mat_sets.proofs.WeightOrder.{not_below_gives, not_below_from}
-use Rattle.mat_sets.proofs.Search.{some_below_gives, some_below_none, some_subset_gives, some_subset_none}
-use Rattle.mat_sets.proofs.Ground.{IsRising-all_below, IsSubset-all_below}
-use Rattle.mat_laws.specs.Matroids.{IsMatroid, IsBase}
-use Rattle.mat_laws.specs.Heaviest.{IsHeaviest}
+use Rattle.mat_laws.proofs.Common.{◌≡◌, ℕ, Bool, true, false, not, ◌&&◌, eqb, List, length, arith, and_parts, false_from_ne_true, eq-eqb, eqb-true, not-true, both_ways, is_member, with_one, all_below, is_below, weight_sum, Weight, not_below_gives, not_below_from, some_below_gives, some_below_none}
+use Rattle.mat_laws.proofs.Common.{some_subset_gives, some_subset_none, IsRising-all_below, IsSubset-all_below, IsMatroid, IsBase, IsHeaviest}
 use Rattle.mat_laws.specs.Searches.{is_beaten, has_addable}
 
 -- the last of three tests fails where all fail together and the others hold

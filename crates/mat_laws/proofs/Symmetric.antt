@@ -1,16 +1,10 @@
 -- Symmetric exchange. Let C be the members y of B that x can take the place of. x cannot be added to C (else C + x grows inside
 -- B + x to the size of B, and so misses exactly one y of B: but then y is in C). Were there no partner, no member of C could be
 -- added to A - x, so C grows inside (A - x) ∪ C to the size of A - x at most; then A would give it one more, and x to C.
-use Rattle.std.proofs.Common.{◌≡◌, ℕ, ◌<◌, ◌≤◌, Bool, true, false, not, ◌||◌, ◌&&◌, eqb, List, length, inl, inr, sym, ap, ◌∙◌, subst, arith}
+use Rattle.mat_laws.proofs.Common.{◌≡◌, ℕ, ◌<◌, ◌≤◌, Bool, true, false, not, ◌||◌, ◌&&◌, eqb, List, length, inl, inr, sym, ap, ◌∙◌, subst, arith, cases_Bool, cases_lt, eqb-true, or_right, and_parts, and_from, both_ways, false_from_ne_true, not-true, false≢true, is_member, IsRising, IsSubset}
+use Rattle.mat_laws.proofs.Common.{with_one, without_one, minus, set_members, is_member-filter, RisesFrom-filter, is_member-minus, IsRising-with_one, IsRising-without_one, find_member, length-subset, same_size_subset, with_one-both, length-with_one, length-without_one, length-exchange_one}
+use Rattle.mat_laws.proofs.Common.{IsMatroid, HasSymmetricPartner}
 use Rattle.std.specs.List.{filter}
-use Rattle.std.proofs.lemmas.Bool.{cases_Bool, cases_lt, eqb-true, or_right, and_parts, and_from, both_ways, false_from_ne_true, not-true, false≢true}
-use Rattle.mat_sets.specs.Sets.{is_member, IsRising, IsSubset, with_one, without_one, minus}
-use Rattle.mat_sets.proofs.Members.{set_members, is_member-filter, RisesFrom-filter, is_member-minus, IsRising-with_one, IsRising-without_one}
-use Rattle.mat_sets.proofs.Subsets.{find_member, length-subset, same_size_subset}
-use Rattle.mat_sets.proofs.Changes.{with_one-both}
-use Rattle.mat_sets.proofs.Cardinalities.{length-with_one, length-without_one, length-exchange_one}
-use Rattle.mat_laws.specs.Matroids.{IsMatroid}
-use Rattle.mat_laws.specs.Exchanges.{HasSymmetricPartner}
 use Rattle.mat_laws.proofs.Independent.{rising, less_one, grow_to_size}
 use Rattle.mat_laws.proofs.Maximal.{span}
 

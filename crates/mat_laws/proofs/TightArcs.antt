@@ -1,14 +1,7 @@
 -- What the exchanges of a matroid at a set, the heaviest elements that can be added, and tight arcs say of one or two elements.
-use Rattle.std.proofs.Common.{◌≡◌, ℕ, ◌<◌, Bool, true, false, not, ◌&&◌, List, ◌⊎◌, inl, inr, ap, arith}
-use Rattle.std.proofs.lemmas.Bool.{and_parts, and_from, or_cases, or_left, or_right, not-true, false_from_ne_true, both_ways}
-use Rattle.std.proofs.lemmas.Int.{ints}
-use Rattle.mat_sets.specs.Sets.{is_member, with_one, without_one}
+use Rattle.mat_laws.proofs.Common.{◌≡◌, ℕ, ◌<◌, Bool, true, false, not, ◌&&◌, List, ◌⊎◌, inl, inr, ap, arith, and_parts, and_from, or_cases, or_left, or_right, not-true, false_from_ne_true, both_ways, ints, is_member, with_one, without_one, some_below_gives, some_below_from, ◌≺◌, ◌≼◌, is_below}
+use Rattle.mat_laws.proofs.Common.{is_same, Weight, pairs, same_gives, same_from, at_most_or_below, below_gives, not_below_gives, Exchanges, exchanges_at, is_heaviest_addable, is_tight}
 use Rattle.mat_sets.specs.Search.{some_below}
-use Rattle.mat_sets.proofs.Search.{some_below_gives, some_below_from}
-use Rattle.mat_sets.specs.Weights.{◌≺◌, ◌≼◌, is_below, is_same}
-use Rattle.mat_sets.specs.declared.weight.Weight.{Weight}
-use Rattle.mat_sets.proofs.WeightOrder.{pairs, same_gives, same_from, at_most_or_below, below_gives, not_below_gives}
-use Rattle.mat_laws.specs.TightPaths.{Exchanges, exchanges_at, is_heaviest_addable, is_tight}
 
 -- ---- exchanges at a set
 

@@ -1,14 +1,7 @@
 -- Triangular exchange. The last pair is exchanged first: then the other pairs are triangular at I - y + x, since what can take the
 -- place of what among them has not changed (`exchanges_unchanged`).
-use Rattle.std.proofs.Common.{◌≡◌, ℕ, suc, zero, ◌<◌, Bool, true, false, not, ◌||◌, ◌&&◌, eqb, List, [], ◌∷◌, length, get_or, inl, inr, refl, sym, ap, ◌∙◌, arith}
-use Rattle.std.proofs.lemmas.Bool.{cases_Bool, eqb-true, ne_eqb, or_from, both_ways}
-use Rattle.mat_sets.specs.Sets.{is_member, IsRising, IsSubset, with_one, without_one, minus, union}
-use Rattle.mat_sets.proofs.Members.{set_members, same_members, IsRising-with_one, IsRising-without_one, IsRising-minus, IsRising-union}
-use Rattle.mat_sets.proofs.Changes.{with_one-swapped, with_one-returned, without_one-two, without_one-with_one}
-use Rattle.mat_sets.proofs.Cardinalities.{length-with_one}
-use Rattle.mat_sets.proofs.Truths.{same_truth}
-use Rattle.mat_laws.specs.Matroids.{IsMatroid}
-use Rattle.mat_laws.specs.Exchanges.{IsTriangular}
+use Rattle.mat_laws.proofs.Common.{◌≡◌, ℕ, suc, zero, ◌<◌, Bool, true, false, not, ◌||◌, ◌&&◌, eqb, List, [], ◌∷◌, length, get_or, inl, inr, refl, sym, ap, ◌∙◌, arith, cases_Bool, eqb-true, ne_eqb, or_from, both_ways, is_member, IsRising, IsSubset, with_one, without_one, minus, union, set_members}
+use Rattle.mat_laws.proofs.Common.{same_members, IsRising-with_one, IsRising-without_one, IsRising-minus, IsRising-union, with_one-swapped, with_one-returned, without_one-two, without_one-with_one, length-with_one, same_truth, IsMatroid, IsTriangular}
 use Rattle.mat_laws.proofs.Independent.{rising}
 use Rattle.mat_laws.proofs.Symmetric.{IsRising-exchange}
 

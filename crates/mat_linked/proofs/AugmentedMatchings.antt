@@ -1,16 +1,7 @@
 -- A matching whose elements have moved on along an augmenting walk is a matching with the new element: each element of the walk comes to
 -- an index of a set that holds it, and none is lost, since nothing stood at the last index.
-use Rattle.std.proofs.Common.{◌≡◌, ℕ, zero, suc, ◌<◌, ◌≢◌, true, false, eqb, List, length, get_or, is_none, Option, Some, ◌⊎◌, inl, inr, refl, sym, ap, ◌∙◌, subst, arith}
-use Rattle.std.proofs.lemmas.Bool.{both_ways, cases_Bool, cases_lt, eq-eqb, eqb-true, or_cases, or_left, or_right}
-use Rattle.mat_sets.specs.Sets.{is_member, with_one}
-use Rattle.mat_sets.specs.Walks.{IsShortestWalk, IsWalk}
-use Rattle.mat_sets.proofs.ListParts.{same_place}
-use Rattle.mat_sets.proofs.Members.{is_member-get_or, is_member-with_one, place_of_member}
-use Rattle.mat_sets.proofs.Reach.{walk_differs}
-use Rattle.mat_sets.specs.Rows.{row_at}
-use Rattle.mat_flow.specs.LinkTables.{entry_at, entry_before, IsShifted}
-use Rattle.mat_flow.proofs.LinkTables.{some_is_one}
-use Rattle.mat_linked.specs.Matchings.{is_held, IsMatching}
+use Rattle.mat_linked.proofs.Common.{◌≡◌, ℕ, zero, suc, ◌<◌, ◌≢◌, true, false, eqb, List, length, get_or, is_none, Option, Some, ◌⊎◌, inl, inr, refl, sym, ap, ◌∙◌, subst, arith, both_ways, cases_Bool, cases_lt, eq-eqb, eqb-true, or_cases, or_left, or_right, is_member, with_one, IsShortestWalk}
+use Rattle.mat_linked.proofs.Common.{IsWalk, same_place, is_member-get_or, is_member-with_one, place_of_member, walk_differs, row_at, entry_at, entry_before, IsShifted, some_is_one, is_held, IsMatching}
 
 module _ (sets : ℕ) (rows : List (List ℕ)) (X : List ℕ) (old new : List (Option ℕ)) (element : ℕ) (walk : List ℕ)
     (t : IsMatching rows X old)

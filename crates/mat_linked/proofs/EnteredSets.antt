@@ -1,7 +1,5 @@
 -- The rows of indices after some sets of a family: each holds those of the first sets that hold its element.
-use Rattle.std.proofs.Common.{◌≡◌, ℕ, ◌<◌, ◌&&◌, ltb, List, length}
-use Rattle.mat_sets.specs.Rows.{row_at}
-use Rattle.mat_sets.specs.Sets.{is_member}
+use Rattle.mat_linked.proofs.Common.{◌≡◌, ℕ, ◌<◌, ◌&&◌, ltb, List, length, row_at, is_member}
 
 -- for each element the indices of those of the first k sets that hold it
 pub record AreEntered (count k : ℕ) (family rows : List (List ℕ)) : Type 0 where

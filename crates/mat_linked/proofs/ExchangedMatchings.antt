@@ -1,17 +1,9 @@
 -- The members of a matched set whose place an element can take, where from its indices no free one is reached: those at reached indices.
 -- Such a member, taken out, leaves its index free, and a walk leads to it, along which the others move on; the element and the members at
 -- reached indices alone cannot be matched, so one of the latter has to leave.
-use Rattle.std.proofs.Common.{◌≡◌, ℕ, ◌<◌, true, false, Bool, not, eqb, List, length, get_or, set, is_none, Option, Some, None, inl, inr, refl, sym, ap, ◌∙◌, subst, arith, get_or-set_other, get_or-set_same, length-set}
-use Rattle.std.proofs.lemmas.Bool.{both_ways, cases_eq, eq-eqb, ne_eqb, or_left, or_right, and_from, and_parts}
-use Rattle.mat_sets.specs.Sets.{is_member, with_one, without_one}
-use Rattle.mat_sets.specs.Walks.{IsReachedSet, IsShortestWalk}
-use Rattle.mat_sets.proofs.Members.{set_members, is_member-with_one, is_member-without_one}
-use Rattle.mat_sets.proofs.Reach.{finite_reach, reached_by_induction, walk_differs}
-use Rattle.mat_sets.specs.Rows.{row_at}
-use Rattle.mat_flow.specs.LinkTables.{entry_at, IsShifted}
-use Rattle.mat_flow.proofs.LinkTables.{entry_inside, none_is_not_some, some_is_one}
-use Rattle.mat_flow.proofs.PathsOfTables.{shifted_table}
-use Rattle.mat_linked.specs.Matchings.{is_held, AreMatchable, IsMatching}
+use Rattle.mat_linked.proofs.Common.{◌≡◌, ℕ, ◌<◌, true, false, Bool, not, eqb, List, length, get_or, set, is_none, Option, Some, None, inl, inr, refl, sym, ap, ◌∙◌, subst, arith, get_or-set_other, get_or-set_same, length-set, both_ways, cases_eq, eq-eqb, ne_eqb, or_left, or_right, and_from}
+use Rattle.mat_linked.proofs.Common.{and_parts, is_member, with_one, without_one, IsReachedSet, IsShortestWalk, set_members, is_member-with_one, is_member-without_one, finite_reach, reached_by_induction, walk_differs, row_at, entry_at, IsShifted, entry_inside, none_is_not_some, some_is_one}
+use Rattle.mat_linked.proofs.Common.{shifted_table, is_held, AreMatchable, IsMatching}
 use Rattle.mat_linked.proofs.AugmentedMatchings.{augmented}
 use Rattle.mat_linked.proofs.StuckMatchings.{stuck_set}
 

@@ -1,16 +1,7 @@
 -- The paths to the members of a set that another set has not are taken out, one after the other: those to the common members are left.
-use Rattle.std.proofs.Common.{◌≡◌, ℕ, ◌+◌, ◌<◌, ◌≤◌, true, List, length, get_or, take, sym, ap, ◌∙◌, subst, arith}
-use Rattle.std.proofs.lemmas.List.{take_all}
-use Rattle.mat_sets.specs.Sets.{intersection, is_member, minus, without_one, IsRising, IsSet}
-use Rattle.mat_sets.proofs.DisjointSets.{minus_from, minus_parts}
-use Rattle.mat_sets.proofs.Ground.{below_member, IsSet-minus}
-use Rattle.mat_sets.proofs.Members.{is_member-get_or, same_members, set_members, IsRising-minus, IsRising-without_one}
-use Rattle.mat_sets.proofs.Steps.{is_member-take_more, is_member-take_next}
-use Rattle.mat_flow.specs.LinkedEnds.{IsLinkedTo}
+use Rattle.mat_linked.proofs.Common.{◌≡◌, ℕ, ◌+◌, ◌<◌, ◌≤◌, true, List, length, get_or, take, sym, ap, ◌∙◌, subst, arith, take_all, intersection, is_member, minus, without_one, IsRising, IsSet, minus_from, minus_parts, below_member, IsSet-minus, is_member-get_or, same_members, set_members}
+use Rattle.mat_linked.proofs.Common.{IsRising-minus, IsRising-without_one, is_member-take_more, is_member-take_next, IsLinkedTo, gammoid_laws, is_gammoid, set_of_vertices, IsGammoid, member_vertex}
 use Rattle.mat_flow.specs.declared.link_table.LinkTable.{LinkTable}
-use Rattle.mat_linked.specs.GammoidLaws.{gammoid_laws}
-use Rattle.mat_linked.specs.Gammoids.{is_gammoid, set_of_vertices, IsGammoid}
-use Rattle.mat_linked.specs.LinkedSetLaws.{member_vertex}
 use Rattle.mat_linked.proofs.GrownSets.{minus-minus}
 use Rattle.mat_linked.proofs.LinkedRows.{set_of_vertices-without_one}
 use Rattle.mat_linked.proofs.LinkedRuns.{is_member-set_of_vertices}

@@ -1,13 +1,7 @@
 -- A set that grows to one that holds it, by the other members of that one after the other; and what two sets have in common.
-use Rattle.std.proofs.Common.{◌≡◌, ℕ, ◌+◌, ◌<◌, ◌≤◌, true, false, List, length, get_or, take, sym, ap, ◌∙◌, arith}
-use Rattle.std.proofs.lemmas.Bool.{or_from}
-use Rattle.std.proofs.lemmas.List.{take_all}
-use Rattle.mat_sets.specs.Sets.{intersection, is_member, minus, union, with_one, IsRising, IsSubset}
-use Rattle.mat_sets.proofs.DisjointSets.{minus_parts}
+use Rattle.mat_linked.proofs.Common.{◌≡◌, ℕ, ◌+◌, ◌<◌, ◌≤◌, true, false, List, length, get_or, take, sym, ap, ◌∙◌, arith, or_from, take_all, intersection, is_member, minus, union, with_one, IsRising, IsSubset, minus_parts, is_member-get_or, is_member-union, same_members, set_members}
+use Rattle.mat_linked.proofs.Common.{IsRising-intersection, IsRising-minus, IsRising-union, is_member-take_next, union-more, union-none, IsRising-take, union-IsSubset, with_one-IsSubset}
 use Rattle.mat_sets.proofs.Equalities.{union-minus}
-use Rattle.mat_sets.proofs.Members.{is_member-get_or, is_member-union, same_members, set_members, IsRising-intersection, IsRising-minus, IsRising-union}
-use Rattle.mat_sets.proofs.Steps.{is_member-take_next, union-more, union-none, IsRising-take}
-use Rattle.mat_sets.proofs.Subsets.{union-IsSubset, with_one-IsSubset}
 use Rattle.mat_linked.proofs.MatchableSets.{take_inside}
 
 pub minus-minus : (a b : List ℕ) → IsRising a → minus a (minus a b) ≡ intersection a b

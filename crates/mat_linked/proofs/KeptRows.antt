@@ -1,27 +1,9 @@
 -- The row of an element by what is kept of an independent set: where a walk to a free index is found the element can be added, and so put in
 -- the place of each member; else of those that are matched at reached indices.
-use Rattle.std.proofs.Common.{◌≡◌, ℕ, ◌+◌, ◌<◌, ◌≢◌, Bool, true, false, ◌||◌, eqb, List, [], ◌∷◌, length, get_or, filter, take, is_none, Option, Some, None, inl, inr, refl, sym, ap, ◌∙◌, subst, arith}
-use Rattle.std.proofs.lemmas.Bool.{both_ways, cases_Bool, eq-eqb, eqb-true, false_from_ne_true, false≢true, or_cases, or_left, or_right}
+use Rattle.mat_linked.proofs.Common.{◌≡◌, ℕ, ◌+◌, ◌<◌, ◌≢◌, Bool, true, false, ◌||◌, eqb, List, [], ◌∷◌, length, get_or, filter, take, is_none, Option, Some, None, inl, inr, refl, sym, ap, ◌∙◌, subst, arith, both_ways, cases_Bool, eq-eqb, eqb-true, false_from_ne_true, false≢true, or_cases, or_left}
+use Rattle.mat_linked.proofs.Common.{or_right, is_member, with_one, without_one, intersection, AllBelow, IsSet, IsReachedSet, IsWalk, filter_whole, AllBelow-member, IsSet-with_one, IsSet-without_one, filter_same_at, is_member-with_one, set_members, or_none, row_at, entry_at, is_there, IsFreeWalk}
+use Rattle.mat_linked.proofs.Common.{is_before_gives, is_before-more, AreLeading-same, shifted_table, Exchange, row_of, row_outside, LeadToFree, is_held, is_matched_among, AreIndices, AreMatchable, IsMatching, is_transversal-gives, transversal_laws, is_transversal, Family}
 use Rattle.std.specs.List.{All}
-use Rattle.mat_sets.specs.Sets.{is_member, with_one, without_one, intersection, AllBelow, IsSet}
-use Rattle.mat_sets.specs.Walks.{IsReachedSet, IsWalk}
-use Rattle.mat_sets.proofs.Filters.{filter_whole}
-use Rattle.mat_sets.proofs.Ground.{AllBelow-member, IsSet-with_one, IsSet-without_one}
-use Rattle.mat_sets.proofs.Members.{filter_same_at, is_member-with_one, set_members}
-use Rattle.mat_sets.proofs.Truths.{or_none}
-use Rattle.mat_sets.specs.Rows.{row_at}
-use Rattle.mat_flow.specs.LinkTables.{entry_at, is_there}
-use Rattle.mat_flow.specs.Seeking.{IsFreeWalk}
-use Rattle.mat_flow.proofs.Frontiers.{is_before_gives, is_before-more}
-use Rattle.mat_flow.proofs.LeadingVertices.{AreLeading-same}
-use Rattle.mat_flow.proofs.PathsOfTables.{shifted_table}
-use Rattle.mat_laws.specs.declared.exchange.Exchange.{Exchange}
-use Rattle.mat_laws.specs.Exchanges.{row_of}
-use Rattle.mat_laws.proofs.Rows.{row_outside}
-use Rattle.mat_linked.specs.KeptMatchings.{LeadToFree}
-use Rattle.mat_linked.specs.Matchings.{is_held, is_matched_among, AreIndices, AreMatchable, IsMatching}
-use Rattle.mat_linked.specs.TransversalLaws.{is_transversal-gives, transversal_laws}
-use Rattle.mat_linked.specs.Transversals.{is_transversal, Family}
 use Rattle.mat_linked.proofs.AugmentedMatchings.{IsMatching-moved}
 use Rattle.mat_linked.proofs.ExchangedMatchings.{exchanged, not_exchanged}
 use Rattle.mat_linked.proofs.MatchableSets.{matched_is_transversal, AreMatchable-transversal}

@@ -1,3 +1,4 @@
+pub mod Common
 pub mod VertexSets
 pub mod LinkedAnswers
 pub mod AugmentedMatchings

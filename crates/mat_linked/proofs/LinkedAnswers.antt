@@ -1,21 +1,11 @@
 -- A set is linked exactly where as many disjoint paths as it has members lead to its vertices: they end at different ones of them, so at
 -- each; and where there are such paths, no separator has fewer vertices than the set has members.
-use Rattle.std.proofs.Common.{◌≡◌, ℕ, ◌≤◌, true, eqb, List, [], length, map, inl, inr, sym, ap, ◌∙◌, arith}
-use Rattle.std.proofs.lemmas.Bool.{both_ways, cases_Bool, eq-eqb, eqb-true}
-use Rattle.std.proofs.lemmas.List.{length-map}
-use Rattle.mat_sets.specs.Sets.{is_member, union, IsRising, IsSet}
-use Rattle.mat_sets.proofs.Ground.{length-distinct, length-distinct_subset}
-use Rattle.mat_sets.proofs.Members.{IsRising-nil, IsRising-union, is_member-union, same_members}
-use Rattle.mat_sets.proofs.Subsets.{same_size_subset}
-use Rattle.mat_sets.proofs.Truths.{or_none}
+use Rattle.mat_linked.proofs.Common.{◌≡◌, ℕ, ◌≤◌, true, eqb, List, [], length, map, inl, inr, sym, ap, ◌∙◌, arith, both_ways, cases_Bool, eq-eqb, eqb-true, length-map, is_member, union, IsRising, IsSet, length-distinct, length-distinct_subset, IsRising-nil, IsRising-union, is_member-union}
+use Rattle.mat_linked.proofs.Common.{same_members, same_size_subset, or_none, last_of, IsLinking, is_gammoid-from, is_gammoid-gives, is_gammoid, vertices_of, IsGammoid, AreDistinct-vertices_of, for_more, linked_by, size_of}
 use Rattle.mat_flow.proofs.PathChoiceLaws.{ends_are_targets}
 use Rattle.mat_flow.proofs.PathFamilyLaws.{AreDistinct-ends, ends_of, is_member-ends_of}
 use Rattle.mat_flow.proofs.PathLaws.{at_most_a_separator}
-use Rattle.mat_flow.specs.Paths.{last_of, IsLinking}
 use Rattle.mat_flow.proofs.SimplePathLaws.{ArePathsApart-disjoint}
-use Rattle.mat_linked.specs.GammoidLaws.{is_gammoid-from, is_gammoid-gives}
-use Rattle.mat_linked.specs.Gammoids.{is_gammoid, vertices_of, IsGammoid}
-use Rattle.mat_linked.specs.LinkedSetLaws.{AreDistinct-vertices_of, for_more, linked_by, size_of}
 use Rattle.mat_linked.proofs.VertexSets.{length-vertices_of}
 
 module _ (vertices : ℕ) (arcs : List (ℕ × ℕ)) (sources targets : List ℕ) (given : IsGammoid vertices arcs sources targets)

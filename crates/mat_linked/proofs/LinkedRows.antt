@@ -1,19 +1,7 @@
 -- The exchanges of an element at what is kept of the paths to an independent set: they are told by the vertices of its members that give way.
-use Rattle.std.proofs.Common.{◌≡◌, ℕ, ◌<◌, Bool, true, false, not, ◌&&◌, ◌||◌, eqb, ◌↔◌, List, [], length, get_or, filter, refl, sym, ap, ◌∙◌, subst, arith}
-use Rattle.std.proofs.lemmas.Bool.{both_ways, eq-eqb, eqb-true, false_from_ne_true}
-use Rattle.mat_sets.specs.Sets.{is_member, with_one, without_one, AreDistinct, IsSet}
-use Rattle.mat_sets.proofs.Filters.{filter_whole}
-use Rattle.mat_sets.proofs.Ground.{IsSet-with_one, IsSet-without_one, below_member}
-use Rattle.mat_sets.proofs.Members.{filter_same_at, is_member-with_one, is_member-without_one, same_members, IsRising-nil, IsRising-union, IsRising-with_one, IsRising-without_one}
-use Rattle.mat_sets.proofs.Truths.{same_truth}
-use Rattle.mat_flow.specs.Paths.{HasPathsToEach}
-use Rattle.mat_flow.specs.Reroutes.{GiveWay}
-use Rattle.mat_laws.specs.Exchanges.{row_of}
-use Rattle.mat_laws.proofs.Rows.{row-addable, row_outside}
-use Rattle.mat_linked.specs.GammoidLaws.{gammoid_laws}
-use Rattle.mat_linked.specs.Gammoids.{is_gammoid, set_of_vertices, vertices_of, IsGammoid}
-use Rattle.mat_linked.specs.KeptLinkings.{has_vertex_in}
-use Rattle.mat_linked.specs.LinkedSetLaws.{member_vertex, same_vertex, vertex_member}
+use Rattle.mat_linked.proofs.Common.{◌≡◌, ℕ, ◌<◌, Bool, true, false, not, ◌&&◌, ◌||◌, eqb, ◌↔◌, List, [], length, get_or, filter, refl, sym, ap, ◌∙◌, subst, arith, both_ways, eq-eqb, eqb-true, false_from_ne_true, is_member, with_one, without_one, AreDistinct, IsSet, filter_whole, IsSet-with_one}
+use Rattle.mat_linked.proofs.Common.{IsSet-without_one, below_member, filter_same_at, is_member-with_one, is_member-without_one, same_members, IsRising-nil, IsRising-union, IsRising-with_one, IsRising-without_one, same_truth, HasPathsToEach, GiveWay, row_of, row-addable, row_outside, gammoid_laws}
+use Rattle.mat_linked.proofs.Common.{is_gammoid, set_of_vertices, vertices_of, IsGammoid, has_vertex_in, member_vertex, same_vertex, vertex_member}
 use Rattle.mat_linked.proofs.LinkedRuns.{is_member-set_of_vertices, new_vertex, set_of_vertices-with_one, told_by_paths}
 
 -- the vertices of a set with one element fewer

@@ -1,20 +1,9 @@
 -- A run of a gammoid keeps disjoint paths to the vertices of the set so far: an element gets in exactly where there is one path more, to its
 -- vertex.
-use Rattle.std.proofs.Common.{◌≡◌, ℕ, ◌+◌, ◌<◌, ◌≤◌, Bool, true, false, not, ◌&&◌, ◌||◌, if◌then◌else◌, eqb, zero, suc, List, [], ◌∷◌, length, get_or, take, ◌↔◌, inl, inr, refl, sym, ap, ◌∙◌, subst, arith}
-use Rattle.std.proofs.lemmas.Bool.{both_ways, eq-eqb, eqb-true, false_from_ne_true, false≢true, ne_eqb, or_cases, or_left, or_right}
-use Rattle.std.proofs.lemmas.List.{take_all}
-use Rattle.mat_sets.specs.Sets.{is_member, union, with_one, AreDistinct, IsRising, IsSet}
-use Rattle.mat_sets.proofs.Ground.{AreDistinct-rising, IsSet-with_one, below_member}
-use Rattle.mat_sets.proofs.Members.{IsRising-nil, IsRising-union, IsRising-with_one, is_member-get_or, is_member-union, is_member-with_one, same_members}
-use Rattle.mat_sets.proofs.Steps.{is_member-take_more, take-with_one, IsRising-take}
-use Rattle.mat_sets.proofs.Truths.{or_none, same_truth}
-use Rattle.mat_flow.specs.LinkedEnds.{IsLinker}
-use Rattle.mat_flow.specs.Paths.{HasPathsToEach}
-use Rattle.mat_flow.specs.declared.linker.Linker.{Linker}
-use Rattle.mat_laws.proofs.GreedyRunSteps.{IsRunning, IsRunning-next, IsRunning-start}
-use Rattle.mat_linked.specs.GammoidLaws.{gammoid_laws, is_gammoid-from, is_gammoid-gives}
-use Rattle.mat_linked.specs.Gammoids.{is_gammoid, set_of_vertices, vertices_of, IsGammoid}
-use Rattle.mat_linked.specs.LinkedSetLaws.{for_more, linked_by, member_vertex, same_vertex, vertex_member}
+use Rattle.mat_linked.proofs.Common.{◌≡◌, ℕ, ◌+◌, ◌<◌, ◌≤◌, Bool, true, false, not, ◌&&◌, ◌||◌, if◌then◌else◌, eqb, zero, suc, List, [], ◌∷◌, length, get_or, take, ◌↔◌, inl, inr, refl, sym, ap, ◌∙◌, subst, arith, both_ways, eq-eqb, eqb-true, false_from_ne_true, false≢true, ne_eqb, or_cases, or_left}
+use Rattle.mat_linked.proofs.Common.{or_right, take_all, is_member, union, with_one, AreDistinct, IsRising, IsSet, AreDistinct-rising, IsSet-with_one, below_member, IsRising-nil, IsRising-union, IsRising-with_one, is_member-get_or, is_member-union, is_member-with_one, same_members}
+use Rattle.mat_linked.proofs.Common.{is_member-take_more, take-with_one, IsRising-take, or_none, same_truth, IsLinker, HasPathsToEach, Linker, IsRunning, IsRunning-next, IsRunning-start, gammoid_laws, is_gammoid-from, is_gammoid-gives, is_gammoid, set_of_vertices, vertices_of, IsGammoid, for_more}
+use Rattle.mat_linked.proofs.Common.{linked_by, member_vertex, same_vertex, vertex_member}
 use Rattle.mat_linked.proofs.MatchableSets.{take_inside}
 
 -- ---- vertices of sets

@@ -1,18 +1,8 @@
 -- The members of a set can be matched exactly where the set is a partial transversal: the loop matches one after the other, and stops with
 -- a part of the set that cannot be matched.
-use Rattle.std.proofs.Common.{◌≡◌, ℕ, zero, suc, ◌+◌, ◌<◌, ◌≤◌, Bool, true, false, eqb, cond, List, [], ◌∷◌, length, get_or, take, replicate, Option, Some, None, inl, inr, refl, sym, ap, ◌∙◌, subst}
-use Rattle.std.proofs.lemmas.Bool.{and_from, and_parts, both_ways, cond_both, cases_lt, eqb-true, false_from_ne_true, false≢true, or_cases}
-use Rattle.std.proofs.lemmas.List.{get_or_past, length-replicate, take_all}
-use Rattle.mat_sets.specs.Sets.{is_member, with_one, AllBelow, AreDistinct, IsRising, IsSet}
-use Rattle.mat_sets.proofs.Ground.{AllBelow-member, AreDistinct-rising}
-use Rattle.mat_sets.proofs.ListParts.{is_member-tail}
-use Rattle.mat_sets.proofs.Members.{is_member-head}
-use Rattle.mat_sets.proofs.Steps.{is_member-take_next, take-with_one}
-use Rattle.mat_flow.specs.LinkTables.{entry_at}
-use Rattle.mat_flow.proofs.LinkTables.{entry_inside, none_is_not_some, some_is_one}
-use Rattle.mat_linked.specs.Matchings.{AreIndices, AreMatchable, IsMatchedOrNone, IsMatching}
-use Rattle.mat_linked.specs.TransversalLaws.{is_transversal-from, is_transversal-gives}
-use Rattle.mat_linked.specs.Transversals.{is_transversal, lie_in_sets, IsPartialTransversal}
+use Rattle.mat_linked.proofs.Common.{◌≡◌, ℕ, zero, suc, ◌+◌, ◌<◌, ◌≤◌, Bool, true, false, eqb, cond, List, [], ◌∷◌, length, get_or, take, replicate, Option, Some, None, inl, inr, refl, sym, ap, ◌∙◌, subst, and_from, and_parts, both_ways, cond_both, cases_lt, eqb-true, false_from_ne_true, false≢true}
+use Rattle.mat_linked.proofs.Common.{or_cases, get_or_past, length-replicate, take_all, is_member, with_one, AllBelow, AreDistinct, IsRising, IsSet, AllBelow-member, AreDistinct-rising, is_member-tail, is_member-head, is_member-take_next, take-with_one, entry_at, entry_inside, none_is_not_some}
+use Rattle.mat_linked.proofs.Common.{some_is_one, AreIndices, AreMatchable, IsMatchedOrNone, IsMatching, is_transversal-from, is_transversal-gives, is_transversal, lie_in_sets, IsPartialTransversal}
 
 -- ---- the first matching
 

@@ -1,17 +1,7 @@
 -- The greedy run of one matching: an element comes into the set exactly where the matching takes it, and the matching then has the set's
 -- members; where it does not, the set with the element can be matched in no way.
-use Rattle.std.proofs.Common.{◌≡◌, ℕ, ◌+◌, ◌<◌, ◌≤◌, Bool, true, false, not, ◌&&◌, if◌then◌else◌, eqb, List, [], ◌∷◌, length, get_or, drop, replicate, Option, None, refl, sym, ap, ◌∙◌, subst}
-use Rattle.std.proofs.lemmas.Bool.{and_from, false_from_ne_true, or_from}
-use Rattle.std.proofs.lemmas.List.{drop_more, length-replicate}
-use Rattle.mat_sets.specs.Sets.{is_member, with_one, AreDistinct}
-use Rattle.mat_sets.proofs.Ground.{IsSet-with_one}
-use Rattle.mat_sets.proofs.ListParts.{is_member-tail, member_differs}
-use Rattle.mat_sets.proofs.Members.{is_member-head, is_member-with_one}
-use Rattle.mat_laws.specs.GreedyRuns.{grown_along}
-use Rattle.mat_laws.proofs.GreedyRunSteps.{IsRunning, IsRunning-next, IsRunning-end}
-use Rattle.mat_linked.specs.Matchings.{AreIndices, AreMatchable, IsMatchedOrNone, IsMatching}
-use Rattle.mat_linked.specs.TransversalLaws.{is_transversal-from, is_transversal-gives}
-use Rattle.mat_linked.specs.Transversals.{is_transversal}
+use Rattle.mat_linked.proofs.Common.{◌≡◌, ℕ, ◌+◌, ◌<◌, ◌≤◌, Bool, true, false, not, ◌&&◌, if◌then◌else◌, eqb, List, [], ◌∷◌, length, get_or, drop, replicate, Option, None, refl, sym, ap, ◌∙◌, subst, and_from, false_from_ne_true, or_from, drop_more, length-replicate, is_member, with_one, AreDistinct}
+use Rattle.mat_linked.proofs.Common.{IsSet-with_one, is_member-tail, member_differs, is_member-head, is_member-with_one, grown_along, IsRunning, IsRunning-next, IsRunning-end, AreIndices, AreMatchable, IsMatchedOrNone, IsMatching, is_transversal-from, is_transversal-gives, is_transversal}
 use Rattle.mat_linked.proofs.MatchableSets.{matched_is_transversal, IsMatching-none, AreMatchable-transversal}
 
 -- no element of an order comes twice: the next one is not among the later ones, nor in a set of earlier ones

@@ -1,14 +1,7 @@
 -- Paths to the vertices of a set grow to those of an independent set that holds it: each part of that is independent, and so each new
 -- element finds its path.
-use Rattle.std.proofs.Common.{◌≡◌, ℕ, ◌+◌, ◌<◌, ◌≤◌, Bool, true, false, if◌then◌else◌, List, length, get_or, take, ◌↔◌, sym, ap, ◌∙◌, subst}
-use Rattle.mat_sets.specs.Sets.{is_member, minus, union, with_one, IsRising, IsSet, IsSubset}
-use Rattle.mat_sets.proofs.Ground.{below_member, IsSet-subset}
-use Rattle.mat_sets.proofs.Members.{IsRising-with_one}
-use Rattle.mat_flow.specs.LinkedEnds.{IsLinker}
-use Rattle.mat_flow.specs.Paths.{HasPathsToEach}
-use Rattle.mat_flow.specs.declared.linker.Linker.{Linker}
-use Rattle.mat_linked.specs.GammoidLaws.{gammoid_laws}
-use Rattle.mat_linked.specs.Gammoids.{is_gammoid, set_of_vertices, IsGammoid}
+use Rattle.mat_linked.proofs.Common.{◌≡◌, ℕ, ◌+◌, ◌<◌, ◌≤◌, Bool, true, false, if◌then◌else◌, List, length, get_or, take, ◌↔◌, sym, ap, ◌∙◌, subst, is_member, minus, union, with_one, IsRising, IsSet, IsSubset, below_member, IsSet-subset, IsRising-with_one, IsLinker, HasPathsToEach, Linker}
+use Rattle.mat_linked.proofs.Common.{gammoid_laws, is_gammoid, set_of_vertices, IsGammoid}
 use Rattle.mat_linked.proofs.GrownSets.{all_more, in_next, is_new, none_more, one_more, one_more_in_next, rises_so_far, so_far_in_next}
 use Rattle.mat_linked.proofs.LinkedRuns.{new_vertex, paths_by_independence, set_of_vertices-with_one}
 

@@ -1,15 +1,7 @@
 -- Members that are gone are taken out of a matching, and new ones are matched beside the others: where the whole set can be matched, each part
 -- of it can, and so each new member finds its set.
-use Rattle.std.proofs.Common.{◌≡◌, ℕ, ◌+◌, ◌<◌, ◌≤◌, Bool, true, false, cond, List, [], ◌∷◌, length, map, get_or, replicate, take, suc, arith, Option, Some, None, inl, inr, refl, sym, ap, ◌∙◌, subst}
-use Rattle.std.proofs.lemmas.Bool.{cases_Bool}
-use Rattle.mat_sets.specs.Sets.{intersection, is_member, minus, union, with_one, AllBelow, IsRising, IsSubset}
-use Rattle.mat_sets.proofs.DisjointSets.{minus_from, minus_parts}
-use Rattle.mat_sets.proofs.Ground.{AllBelow-member}
-use Rattle.mat_sets.proofs.Members.{same_members, set_members, IsRising-intersection, IsRising-nil}
-use Rattle.mat_sets.proofs.Subsets.{intersection-right}
-use Rattle.mat_flow.specs.LinkTables.{entry_at}
-use Rattle.mat_flow.proofs.LinkTables.{none_is_not_some, some_is_one}
-use Rattle.mat_linked.specs.Matchings.{entry_without, AreMatchable, IsMatchedOrNone, IsMatching}
+use Rattle.mat_linked.proofs.Common.{◌≡◌, ℕ, ◌+◌, ◌<◌, ◌≤◌, Bool, true, false, cond, List, [], ◌∷◌, length, map, get_or, replicate, take, suc, arith, Option, Some, None, inl, inr, refl, sym, ap, ◌∙◌, subst, cases_Bool, intersection, is_member, minus, union, with_one, AllBelow, IsRising, IsSubset}
+use Rattle.mat_linked.proofs.Common.{minus_from, minus_parts, AllBelow-member, same_members, set_members, IsRising-intersection, IsRising-nil, intersection-right, entry_at, none_is_not_some, some_is_one, entry_without, AreMatchable, IsMatchedOrNone, IsMatching}
 use Rattle.mat_linked.proofs.GrownSets.{all_more, in_next, is_new, new_beside_common, none_more, one_more, one_more_in_next}
 use Rattle.mat_linked.proofs.MatchableSets.{AreMatchable-part, IsMatching-none}
 

@@ -1,27 +1,11 @@
 -- Searches for augmenting walks of a matching, one after the other: where the arcs from an index lead depends on its entry alone, so what was
 -- reached in vain is left alone by later walks, and is never reached again.
-use Rattle.std.proofs.Common.{arith, ◌≡◌, ℕ, ◌<◌, ◌^◌, Bool, true, false, not, ◌&&◌, List, length, is_none, is_some, Option, Some, None, refl, sym, ap, ◌∙◌, subst}
-use Rattle.std.proofs.lemmas.Bool.{and_from, and_parts, both_ways, false_from_ne_true, not-true}
+use Rattle.mat_linked.proofs.Common.{arith, ◌≡◌, ℕ, ◌<◌, ◌^◌, Bool, true, false, not, ◌&&◌, List, length, is_none, is_some, Option, Some, None, refl, sym, ap, ◌∙◌, subst, and_from, and_parts, both_ways, false_from_ne_true, not-true, all_below, intersection, is_member, with_one, AllBelow, row_at}
+use Rattle.mat_linked.proofs.Common.{IsNextFrom, reached_set_exists, walk_differs, same_truth, entry_at, IsShifted, live_in, IsFreeWalk, IsRoom, IsShut, IsSpent, is_before_gives, leading_walk, unled_misses, some_is_one, LeadToFree, is_held, is_matched_among, AreIndices, AreMatchable, IsMatching}
+use Rattle.mat_linked.proofs.Common.{is_transversal-gives, is_transversal, Exchange, row_of, row-addable}
 use Rattle.std.specs.List.{All}
-use Rattle.mat_sets.specs.Sets.{all_below, intersection, is_member, with_one, AllBelow}
-use Rattle.mat_sets.specs.Rows.{row_at}
-use Rattle.mat_sets.specs.Search.{IsNextFrom}
-use Rattle.mat_sets.proofs.Reach.{reached_set_exists, walk_differs}
-use Rattle.mat_sets.proofs.Truths.{same_truth}
-use Rattle.mat_flow.specs.LinkTables.{entry_at, IsShifted}
-use Rattle.mat_flow.specs.Seeking.{live_in, IsFreeWalk, IsRoom, IsShut, IsSpent}
 use Rattle.mat_flow.specs.declared.seeking.SearchRoom.{SearchRoom}
 use Rattle.mat_flow.proofs.FirstGoals.{shut_misses, spent_reaches, IsShut-all, IsShut-moved, IsShut-spent}
-use Rattle.mat_flow.proofs.Frontiers.{is_before_gives}
-use Rattle.mat_flow.proofs.LeadingVertices.{leading_walk, unled_misses}
-use Rattle.mat_flow.proofs.LinkTables.{some_is_one}
-use Rattle.mat_linked.specs.KeptMatchings.{LeadToFree}
-use Rattle.mat_linked.specs.Matchings.{is_held, is_matched_among, AreIndices, AreMatchable, IsMatching}
-use Rattle.mat_linked.specs.TransversalLaws.{is_transversal-gives}
-use Rattle.mat_linked.specs.Transversals.{is_transversal}
-use Rattle.mat_laws.specs.declared.exchange.Exchange.{Exchange}
-use Rattle.mat_laws.specs.Exchanges.{row_of}
-use Rattle.mat_laws.proofs.Rows.{row-addable}
 use Rattle.mat_linked.specs.Searches.{IsReady}
 use Rattle.mat_linked.proofs.AugmentedMatchings.{IsMatching-moved}
 use Rattle.mat_linked.proofs.KeptRows.{matched_among_from, row_added, row_reached}

@@ -1,16 +1,8 @@
 -- Where no free index is reached from the indices of an element, it and the elements at the reached indices have reached indices alone,
 -- which are fewer than they: so no set with all of them can be matched.
-use Rattle.std.proofs.Common.{◌≡◌, ℕ, suc, true, false, eqb, List, ◌∷◌, length, map, is_none, Option, Some, None, inl, inr, refl, sym, ap, ◌∙◌, subst, arith}
-use Rattle.std.proofs.lemmas.Bool.{both_ways, eq-eqb, eqb-true, false_from_ne_true, or_cases, or_left, or_right}
-use Rattle.std.proofs.lemmas.List.{length-map}
-use Rattle.mat_sets.specs.Sets.{is_member, with_one, AreDistinct}
-use Rattle.mat_sets.specs.Walks.{IsReachedSet}
-use Rattle.mat_sets.proofs.Ground.{AreDistinct-rising, length-distinct_subset}
+use Rattle.mat_linked.proofs.Common.{◌≡◌, ℕ, suc, true, false, eqb, List, ◌∷◌, length, map, is_none, Option, Some, None, inl, inr, refl, sym, ap, ◌∙◌, subst, arith, both_ways, eq-eqb, eqb-true, false_from_ne_true, or_cases, or_left, or_right, length-map, is_member, with_one, AreDistinct}
+use Rattle.mat_linked.proofs.Common.{IsReachedSet, AreDistinct-rising, length-distinct_subset, is_member-with_one, row_at, entry_at, is_held, AreMatchable, IsMatching}
 use Rattle.mat_sets.proofs.MappedLists.{AreDistinct-map, mapped_member}
-use Rattle.mat_sets.proofs.Members.{is_member-with_one}
-use Rattle.mat_sets.specs.Rows.{row_at}
-use Rattle.mat_flow.specs.LinkTables.{entry_at}
-use Rattle.mat_linked.specs.Matchings.{is_held, AreMatchable, IsMatching}
 
 -- the element that an entry has
 abbrev element_of : Option ℕ → ℕ

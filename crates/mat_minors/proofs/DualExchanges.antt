@@ -1,30 +1,13 @@
 -- The exchanges at an independent set I of a dual, by those of the matroid at a base B that is disjoint from I. A set that meets B in x
 -- alone is independent in the dual exactly where some z outside B and outside the set can take the place of x in B. So an x outside B
 -- can always be added; one in B can be added where some such z lies outside I, and else it can be exchanged exactly for these z.
-use Rattle.std.proofs.Common.{◌≡◌, ℕ, ◌<◌, Bool, true, false, not, ◌&&◌, cond, eqb, ltb, List, [], length, get_or}
-use Rattle.std.proofs.Common.{Result, Ok, Err, IfOk, inl, inr, subst, sym, ap, ◌∙◌, arith}
+use Rattle.mat_minors.proofs.Common.{◌≡◌, ℕ, ◌<◌, Bool, true, false, not, ◌&&◌, cond, eqb, ltb, List, [], length, get_or, Result, Ok, Err, IfOk, inl, inr, subst, sym, ap, ◌∙◌, arith, cases_Bool, cases_eq, and_parts, and_from, both_ways, false_from_ne_true, ne_eqb, eqb-true, ltb-true, lt-ltb}
+use Rattle.mat_minors.proofs.Common.{not-true, or_cases, is_member, IsRising, IsSet, IsSubset, with_one, without_one, minus, intersection, union, all_below, set_members, same_members, is_member-filter, is_member-with_one, IsRising-without_one, length-with_one, length-without_one, subset_or}
+use Rattle.mat_minors.proofs.Common.{IsSet-with_one, IsSet-without_one, below_member, IsSubset-all_below, apart_at, apart_from, inside_test, inside_test_from, minus_from, minus_parts, IsMatroid, IsBase, IsMaximal, row_of, Exchange, rising, below, less_one, maximal_from_none, IsBase-size}
+use Rattle.mat_minors.proofs.Common.{base_largest, IsMaximal-largest, exchanged, row_outside, is_dual, IsDualIndependent, dual-gives, dual-from, kept_row, IsDualKept}
 use Rattle.std.specs.List.{filter}
-use Rattle.std.proofs.lemmas.Bool.{cases_Bool, cases_eq, and_parts, and_from, both_ways, false_from_ne_true, ne_eqb}
-use Rattle.std.proofs.lemmas.Bool.{eqb-true, ltb-true, lt-ltb, not-true, or_cases}
-use Rattle.mat_sets.specs.Sets.{is_member, IsRising, IsSet, IsSubset, with_one, without_one, minus, intersection, union, all_below}
-use Rattle.mat_sets.proofs.Members.{set_members, same_members, is_member-filter, is_member-with_one}
-use Rattle.mat_sets.proofs.Members.{IsRising-without_one}
-use Rattle.mat_sets.proofs.Cardinalities.{length-with_one, length-without_one}
-use Rattle.mat_sets.proofs.Subsets.{subset_or}
 use Rattle.mat_sets.proofs.Filters.{filter_whole, IsRising-filter}
-use Rattle.mat_sets.proofs.Ground.{IsSet-with_one, IsSet-without_one, below_member, IsSubset-all_below}
-use Rattle.mat_sets.proofs.DisjointSets.{apart_at, apart_from, inside_test, inside_test_from, minus_from, minus_parts}
-use Rattle.mat_laws.specs.Matroids.{IsMatroid, IsBase, IsMaximal}
-use Rattle.mat_laws.specs.Exchanges.{row_of}
-use Rattle.mat_laws.specs.declared.exchange.Exchange.{Exchange}
-use Rattle.mat_laws.proofs.Independent.{rising, below, less_one}
-use Rattle.mat_laws.proofs.Growing.{maximal_from_none}
-use Rattle.mat_laws.proofs.Maximal.{IsBase-size, base_largest, IsMaximal-largest}
-use Rattle.mat_laws.proofs.Rows.{exchanged, row_outside}
-use Rattle.mat_minors.specs.Minors.{is_dual, IsDualIndependent}
-use Rattle.mat_minors.specs.DualLaws.{dual-gives, dual-from}
 use Rattle.mat_laws.specs.Columns.{takes_place, AreColumns}
-use Rattle.mat_minors.specs.DualRows.{kept_row, IsDualKept}
 
 -- what can take the place of x in B and lies outside J
 pub record Replaces (n : ℕ) (p : List ℕ → Bool) (B J : List ℕ) (x : ℕ) : Type 0 where

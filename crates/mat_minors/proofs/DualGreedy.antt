@@ -1,20 +1,9 @@
 -- The greedy run of a dual takes what the greedy run of its matroid along the reversed order leaves. Where x comes after the elements of P,
 -- the run of the matroid has, before x, a maximal independent set A of all that comes after x in the order of the dual. If the run takes x,
 -- x cannot be added in the dual: a base C that misses P - B and x has at most the elements of A and those of B in P.
-use Rattle.std.proofs.Common.{◌≡◌, ℕ, ◌<◌, Bool, true, false, eqb, List, [], inl, inr, sym, ap, ◌∙◌, arith}
-use Rattle.std.proofs.lemmas.Bool.{cases_eq, and_parts, both_ways, false_from_ne_true, ne_eqb, eqb-true, or_cases}
-use Rattle.mat_sets.specs.Sets.{is_member, IsRising, IsSet, IsSubset, with_one, minus, intersection, union, all_below}
-use Rattle.mat_sets.proofs.Members.{set_members, is_member-with_one, is_member-union, is_member-intersection, IsRising-with_one, IsRising-minus}
-use Rattle.mat_sets.proofs.Members.{IsRising-intersection, IsRising-union}
-use Rattle.mat_sets.proofs.Subsets.{length-subset, minus-IsSubset}
-use Rattle.mat_sets.proofs.Cardinalities.{length-with_one, length-minus-intersection, length-union_apart}
-use Rattle.mat_sets.proofs.Ground.{IsSet-with_one, IsSubset-all_below, AllBelow-subset}
-use Rattle.mat_sets.proofs.DisjointSets.{apart_at, apart_from, minus_parts, minus_from, with_one-holds}
-use Rattle.mat_laws.specs.Matroids.{IsMatroid, IsBase, IsMaximal}
-use Rattle.mat_laws.proofs.Independent.{rising, below}
-use Rattle.mat_laws.proofs.Maximal.{base_largest, IsMaximal-largest}
-use Rattle.mat_minors.specs.Minors.{is_dual}
-use Rattle.mat_minors.specs.DualLaws.{dual-gives, dual-from}
+use Rattle.mat_minors.proofs.Common.{◌≡◌, ℕ, ◌<◌, Bool, true, false, eqb, List, [], inl, inr, sym, ap, ◌∙◌, arith, cases_eq, and_parts, both_ways, false_from_ne_true, ne_eqb, eqb-true, or_cases, is_member, IsRising, IsSet, IsSubset, with_one, minus, intersection, union, all_below, set_members}
+use Rattle.mat_minors.proofs.Common.{is_member-with_one, is_member-union, is_member-intersection, IsRising-with_one, IsRising-minus, IsRising-intersection, IsRising-union, length-subset, minus-IsSubset, length-with_one, length-minus-intersection, length-union_apart, IsSet-with_one}
+use Rattle.mat_minors.proofs.Common.{IsSubset-all_below, AllBelow-subset, apart_at, apart_from, minus_parts, minus_from, with_one-holds, IsMatroid, IsBase, IsMaximal, rising, below, base_largest, IsMaximal-largest, is_dual, dual-gives, dual-from}
 
 module _ {n : ℕ} {p : List ℕ → Bool} (laws : IsMatroid n p) (B : List ℕ) (base : IsBase n p B) (P : List ℕ) (x : ℕ) (set : IsSet n P)
     (small : x < n)

@@ -1,14 +1,10 @@
 -- What a dual keeps of another set at the same base: a base that is disjoint from the other set serves it too, with the same columns.
-use Rattle.std.proofs.Common.{◌≡◌, ℕ, Bool, true, false, not, ◌&&◌, cond, eqb, List, length, Option, None, Some, refl, sym, ap, subst, ◌∙◌, arith}
+use Rattle.mat_minors.proofs.Common.{◌≡◌, ℕ, Bool, true, false, not, ◌&&◌, cond, eqb, List, length, Option, None, Some, refl, sym, ap, subst, ◌∙◌, arith, and_from, and_parts, both_ways, eq-eqb, eqb-true, false_from_ne_true, is_member, intersection, apart_at, apart_from, IsDualKept, at_same_base}
 use Rattle.std.specs.Option.{is_some}
-use Rattle.std.proofs.lemmas.Bool.{and_from, and_parts, both_ways, eq-eqb, eqb-true, false_from_ne_true}
 use Rattle.std.proofs.lemmas.List.{nil_from_length}
 use Rattle.std.proofs.lemmas.Option.{cond_some}
 use Rattle.mat_sets.specs.Search.{IsNextFrom}
-use Rattle.mat_sets.specs.Sets.{is_member, intersection}
-use Rattle.mat_sets.proofs.DisjointSets.{apart_at, apart_from}
 use Rattle.mat_minors.specs.declared.dual.DualKept.{DualKept}
-use Rattle.mat_minors.specs.DualRows.{IsDualKept, at_same_base}
 
 -- what is kept of J at the base that is kept of another set
 abbrev at_base : DualKept → List ℕ → DualKept

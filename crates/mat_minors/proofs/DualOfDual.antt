@@ -1,20 +1,9 @@
 -- The dual of the dual is the matroid: a set that misses a base of the dual lies in each base that misses that one, and the complement of a
 -- base is a base of the dual (Whitney 1935; Schrijver, chapter 39).
 use mathlib.Core.Path.{fun_ext}
-use Rattle.std.proofs.Common.{◌≡◌, ℕ, ◌++◌, ◌||◌, Bool, true, false, List, [], inl, inr, ap, sym, ◌∙◌}
-use Rattle.std.proofs.lemmas.Bool.{cases_Bool, both_ways, false_from_ne_true, lt-ltb, ne_eqb}
-use Rattle.mat_sets.specs.Sets.{is_member, IsSubset, with_one, minus, all_below}
-use Rattle.mat_sets.proofs.DisjointSets.{apart_at, apart_from, in_complement, minus_parts, with_one-holds}
-use Rattle.mat_sets.proofs.Ground.{below_member, is_member-all_below, IsSet-all_below, IsSet-minus, IsSet-with_one}
-use Rattle.mat_sets.proofs.Members.{is_member-with_one, IsRising-with_one}
-use Rattle.mat_sets.proofs.Subsets.{union-right, with_one-IsSubset, IsSubset-with_one}
-use Rattle.mat_laws.specs.GreedyRuns.{grown_along}
-use Rattle.mat_laws.specs.Matroids.{IsBase, IsMatroid}
+use Rattle.mat_minors.proofs.Common.{◌≡◌, ℕ, ◌++◌, ◌||◌, Bool, true, false, List, [], inl, inr, ap, sym, ◌∙◌, cases_Bool, both_ways, false_from_ne_true, lt-ltb, ne_eqb, is_member, IsSubset, with_one, minus, all_below, apart_at, apart_from, in_complement, minus_parts, with_one-holds, below_member}
+use Rattle.mat_minors.proofs.Common.{is_member-all_below, IsSet-all_below, IsSet-minus, IsSet-with_one, is_member-with_one, IsRising-with_one, union-right, with_one-IsSubset, IsSubset-with_one, grown_along, IsBase, IsMatroid, rising, is_dual, IsDualIndependent, dual-gives, dual-from, dual_laws}
 use Rattle.mat_laws.proofs.GreedyRunSets.{run_holds, run_maximal_from}
-use Rattle.mat_laws.proofs.Independent.{rising}
-use Rattle.mat_minors.specs.Minors.{is_dual, IsDualIndependent}
-use Rattle.mat_minors.specs.DualLaws.{dual-gives, dual-from}
-use Rattle.mat_minors.specs.MinorLaws.{dual_laws}
 
 module _ {n : ℕ} {p : List ℕ → Bool} (laws : IsMatroid n p) where
   -- each independent set lies in a base

@@ -1,25 +1,11 @@
 -- The greedy run of a dual along an order takes what the run of its matroid leaves that goes first through all other elements and then
 -- through the order from its end.
-use Rattle.std.proofs.Common.{◌≡◌, ℕ, ◌<◌, Bool, true, false, not, ◌&&◌, ◌||◌, ◌⊎◌, cond, eqb, ltb, List, [], ◌∷◌}
-use Rattle.std.proofs.Common.{◌++◌, length, reverse}
-use Rattle.std.proofs.Common.{inl, inr, refl, subst, sym, ap, ◌∙◌, arith}
-use Rattle.std.proofs.lemmas.Bool.{cases_Bool, cases_eq, both_ways, ne_eqb, eq-eqb, or_left, or_right, lt-ltb, and_right}
-use Rattle.std.proofs.lemmas.List.{append_assoc}
-use Rattle.mat_sets.specs.Sets.{is_member, IsRising, IsSet, IsSubset, AllBelow, AreDistinct, with_one, minus, union, all_below}
+use Rattle.mat_minors.proofs.Common.{◌≡◌, ℕ, ◌<◌, Bool, true, false, not, ◌&&◌, ◌||◌, ◌⊎◌, cond, eqb, ltb, List, [], ◌∷◌, ◌++◌, length, reverse, inl, inr, refl, subst, sym, ap, ◌∙◌, arith, cases_Bool, cases_eq, both_ways, ne_eqb, eq-eqb, or_left, or_right, lt-ltb, and_right, append_assoc, is_member}
+use Rattle.mat_minors.proofs.Common.{IsRising, IsSet, IsSubset, AllBelow, AreDistinct, with_one, minus, union, all_below, set_members, same_members, is_member-append, is_member-minus, is_member-union, is_member-with_one, IsRising-with_one, IsRising-minus, minus-none, IsSubset-refl, IsSubset-trans}
+use Rattle.mat_minors.proofs.Common.{IsSet-with_one, IsSet-nil, AllBelow-member, is_member-all_below, with_one-holds, or_none, IsMatroid, IsBase, IsMaximal, grown_by, grown_along, IsBase-maximal, is_dual, dual_laws}
 use Rattle.mat_sets.proofs.ListParts.{reverse-cons, is_member-reverse}
-use Rattle.mat_sets.proofs.Members.{set_members, same_members, is_member-append, is_member-minus, is_member-union, is_member-with_one}
-use Rattle.mat_sets.proofs.Members.{IsRising-with_one, IsRising-minus, minus-none}
 use Rattle.mat_sets.proofs.Equalities.{union-with_one}
-use Rattle.mat_sets.proofs.Subsets.{IsSubset-refl, IsSubset-trans}
-use Rattle.mat_sets.proofs.Ground.{IsSet-with_one, IsSet-nil, AllBelow-member, is_member-all_below}
-use Rattle.mat_sets.proofs.DisjointSets.{with_one-holds}
-use Rattle.mat_sets.proofs.Truths.{or_none}
-use Rattle.mat_laws.specs.Matroids.{IsMatroid, IsBase, IsMaximal}
-use Rattle.mat_laws.specs.GreedyRuns.{grown_by, grown_along}
-use Rattle.mat_laws.proofs.Maximal.{IsBase-maximal}
 use Rattle.mat_laws.proofs.GreedyRunSets.{grown_along-append, grown_by-holds, run_maximal, run_length}
-use Rattle.mat_minors.specs.Minors.{is_dual}
-use Rattle.mat_minors.specs.MinorLaws.{dual_laws}
 use Rattle.mat_minors.proofs.DualGreedy.{dual_takes, dual_leaves}
 
 -- at each element of the order a maximal independent set of what comes later

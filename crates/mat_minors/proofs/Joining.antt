@@ -1,11 +1,5 @@
 -- Sets that lie in what a restriction keeps, or share no member with what a contraction contracts: only these can be independent.
-use Rattle.std.proofs.Common.{◌≡◌, ℕ, Bool, false, ◌&&◌, List, [], sym, ap, ◌∙◌}
-use Rattle.std.proofs.lemmas.Bool.{and_parts, false_from_ne_true}
-use Rattle.mat_sets.specs.Sets.{IsRising, IsSubset, intersection}
-use Rattle.mat_sets.proofs.DisjointSets.{inside_test, inside_test_from}
-use Rattle.mat_sets.proofs.Truths.{and_all}
-use Rattle.mat_minors.specs.Minors.{is_contracted, is_restricted}
-use Rattle.mat_minors.specs.ContractionLaws.{contraction-gives}
+use Rattle.mat_minors.proofs.Common.{◌≡◌, ℕ, Bool, false, ◌&&◌, List, [], sym, ap, ◌∙◌, and_parts, false_from_ne_true, IsRising, IsSubset, intersection, inside_test, inside_test_from, and_all, is_contracted, is_restricted, contraction-gives}
 
 -- a set of elements that are kept is independent in the restriction where it is so in the matroid
 pub restricted_inside : (p : List ℕ → Bool) (kept X : List ℕ) → IsSubset X kept → p X ≡ is_restricted kept p X

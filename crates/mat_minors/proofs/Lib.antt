@@ -1,3 +1,4 @@
+pub mod Common
 pub mod Joining
 pub mod MinorRows
 pub mod MinorColumns

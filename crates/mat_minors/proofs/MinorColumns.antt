@@ -1,14 +1,8 @@
 -- The columns at an independent set of a truncation, a restriction or a contraction, by those of the inner matroid: an element that the minor
 -- leaves out takes no place, and every other one the places that it takes there.
-use Rattle.std.proofs.Common.{◌≡◌, ℕ, Bool, true, false, not, ◌&&◌, ◌||◌, ltb, List, [], get_or, inl, inr, sym, ap, ◌∙◌, arith}
-use Rattle.std.proofs.lemmas.Bool.{cases_Bool, ltb-true}
+use Rattle.mat_minors.proofs.Common.{◌≡◌, ℕ, Bool, true, false, not, ◌&&◌, ◌||◌, ltb, List, [], get_or, inl, inr, sym, ap, ◌∙◌, arith, cases_Bool, ltb-true, is_member, IsSet, union, without_one, is_member-union, IsMatroid, IsMaximal, exchanged, is_truncated, is_restricted, is_contracted}
 use Rattle.mat_sets.specs.Rows.{AreEmptied, AreRemoved}
-use Rattle.mat_sets.specs.Sets.{is_member, IsSet, union, without_one}
-use Rattle.mat_sets.proofs.Members.{is_member-union}
 use Rattle.mat_laws.specs.Columns.{takes_place, AreColumns}
-use Rattle.mat_laws.specs.Matroids.{IsMatroid, IsMaximal}
-use Rattle.mat_laws.proofs.Rows.{exchanged}
-use Rattle.mat_minors.specs.Minors.{is_truncated, is_restricted, is_contracted}
 use Rattle.mat_minors.proofs.MinorRows.{truncated_exchanged, restricted_exchanged, restricted_fails}
 use Rattle.mat_minors.proofs.MinorRows.{apart_from_chosen, contracted_exchanged, contracted_fails, outside_chosen}
 

@@ -1,25 +1,10 @@
 -- The exchanges at an independent set of a truncation, a restriction or a contraction, by those of the inner matroid: the additional
 -- conditions hold of each set that an exchange makes, or of none; and the members of a maximal independent subset of the contracted
 -- elements are left out.
-use Rattle.std.proofs.Common.{◌≡◌, ℕ, ◌<◌, Bool, true, false, ◌&&◌, eqb, leb, ltb, List, [], length, inl, inr, refl}
-use Rattle.std.proofs.Common.{sym, ap, ◌∙◌, arith}
-use Rattle.std.proofs.lemmas.Bool.{cases_Bool, and_parts, both_ways, false_from_ne_true}
-use Rattle.std.proofs.lemmas.Bool.Decides.{nat_tests}
-use Rattle.mat_sets.specs.Sets.{is_member, IsRising, IsSet, IsSubset, with_one, without_one, minus, intersection, union}
-use Rattle.mat_sets.proofs.Members.{filter_same_at, is_member-union}
-use Rattle.mat_sets.proofs.Cardinalities.{length-with_one, length-exchange_one}
-use Rattle.mat_sets.proofs.Subsets.{IsSubset-trans, with_one-IsSubset, without_one-IsSubset}
-use Rattle.mat_sets.proofs.Ground.{IsSet-with_one, IsSet-without_one}
-use Rattle.mat_sets.proofs.DisjointSets.{inside_test, inside_test_from, apart_with, apart_at, apart_from}
-use Rattle.mat_sets.proofs.DisjointSets.{union-with_one_left, with_one-holds, without_one-union}
+use Rattle.mat_minors.proofs.Common.{◌≡◌, ℕ, ◌<◌, Bool, true, false, ◌&&◌, eqb, leb, ltb, List, [], length, inl, inr, refl, sym, ap, ◌∙◌, arith, cases_Bool, and_parts, both_ways, false_from_ne_true, nat_tests, is_member, IsRising, IsSet, IsSubset, with_one, without_one, minus, intersection, union}
+use Rattle.mat_minors.proofs.Common.{filter_same_at, is_member-union, length-with_one, length-exchange_one, IsSubset-trans, with_one-IsSubset, without_one-IsSubset, IsSet-with_one, IsSet-without_one, inside_test, inside_test_from, apart_with, apart_at, apart_from, union-with_one_left}
+use Rattle.mat_minors.proofs.Common.{with_one-holds, without_one-union, IsMatroid, IsMaximal, row_of, Exchange, rising, exchanged, row_outside, row-addable, row-with, is_truncated, is_restricted, is_contracted, IsContraction, contraction-gives, IsJoined, IsJoined-gives, IsJoined-from}
 use Rattle.mat_sets.proofs.Filters.{filter_first, filter_none}
-use Rattle.mat_laws.specs.Matroids.{IsMatroid, IsMaximal}
-use Rattle.mat_laws.specs.Exchanges.{row_of}
-use Rattle.mat_laws.specs.declared.exchange.Exchange.{Exchange}
-use Rattle.mat_laws.proofs.Independent.{rising}
-use Rattle.mat_laws.proofs.Rows.{exchanged, row_outside, row-addable, row-with}
-use Rattle.mat_minors.specs.Minors.{is_truncated, is_restricted, is_contracted, IsContraction}
-use Rattle.mat_minors.specs.ContractionLaws.{contraction-gives, IsJoined, IsJoined-gives, IsJoined-from}
 
 true_and : (b c : Bool) → c ≡ true → b ≡ (b && c)
 true_and true c e = sym e

@@ -1,26 +1,12 @@
 -- The greedy runs of a truncation, a restriction and a contraction, by one run of the matroid within: the truncation stops at its cap, the
 -- restriction passes over what is not kept, and the contraction runs through what it contracts first.
-use Rattle.std.proofs.Common.{◌≡◌, ℕ, ◌+◌, ◌<◌, ◌≤◌, Bool, true, false, not, ◌&&◌, ◌||◌, cond, if◌then◌else◌, eqb}
-use Rattle.std.proofs.Common.{leb, List, [], ◌∷◌, ◌++◌, length, get_or, drop, inl, inr, refl, subst, sym, ap, ◌∙◌, arith}
+use Rattle.mat_minors.proofs.Common.{◌≡◌, ℕ, ◌+◌, ◌<◌, ◌≤◌, Bool, true, false, not, ◌&&◌, ◌||◌, cond, if◌then◌else◌, eqb, leb, List, [], ◌∷◌, ◌++◌, length, get_or, drop, inl, inr, refl, subst, sym, ap, ◌∙◌, arith, cases_Bool, and_parts, and_from, both_ways, false_from_ne_true, and_right, nat_tests}
+use Rattle.mat_minors.proofs.Common.{is_member, IsRising, IsSet, IsSubset, AllBelow, AreDistinct, with_one, minus, intersection, union, same_members, is_member-minus, is_member-union, IsRising-minus, IsRising-union, length-with_one, with_one-IsSubset, IsSet-with_one, inside_test, inside_test_from}
+use Rattle.mat_minors.proofs.Common.{apart_with, apart_at, union-with_one_left, with_one-holds, and_all, grown_by, grown_along, IsMatroid, IsMaximal, rising, is_truncated, is_restricted, is_contracted, contraction-gives, IsJoined-gives, contracted_laws}
 use Rattle.std.specs.List.{filter}
-use Rattle.std.proofs.lemmas.Bool.{cases_Bool, and_parts, and_from, both_ways, false_from_ne_true, and_right}
-use Rattle.std.proofs.lemmas.Bool.Decides.{nat_tests}
-use Rattle.mat_sets.specs.Sets.{is_member, IsRising, IsSet, IsSubset, AllBelow, AreDistinct, with_one, minus, intersection, union}
-use Rattle.mat_sets.proofs.Members.{same_members, is_member-minus, is_member-union, IsRising-minus, IsRising-union}
-use Rattle.mat_sets.proofs.Cardinalities.{length-with_one}
-use Rattle.mat_sets.proofs.Subsets.{with_one-IsSubset}
-use Rattle.mat_sets.proofs.Ground.{IsSet-with_one}
-use Rattle.mat_sets.proofs.DisjointSets.{inside_test, inside_test_from, apart_with, apart_at, union-with_one_left, with_one-holds}
-use Rattle.mat_sets.proofs.Truths.{and_all}
-use Rattle.mat_laws.specs.GreedyRuns.{grown_by, grown_along}
-use Rattle.mat_laws.specs.Matroids.{IsMatroid, IsMaximal}
-use Rattle.mat_laws.proofs.Independent.{rising}
 use Rattle.mat_laws.proofs.GreedyRunSteps.{IsRunning, IsRunning-start, IsRunning-next, IsRunning-end}
 use Rattle.mat_laws.proofs.GreedyRunSets.{grown_along-append, grown_by-passes, run_ends, run_maximal_of}
 use Rattle.mat_laws.proofs.GreedyRunTraces.{IsTracing, IsTracing-start, IsTracing-next, traced}
-use Rattle.mat_minors.specs.Minors.{is_truncated, is_restricted, is_contracted}
-use Rattle.mat_minors.specs.ContractionLaws.{contraction-gives, IsJoined-gives}
-use Rattle.mat_minors.specs.MinorLaws.{contracted_laws}
 use Rattle.mat_minors.proofs.MinorRows.{contracted_apart}
 
 -- ---- the truncation

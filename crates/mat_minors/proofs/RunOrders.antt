@@ -1,15 +1,9 @@
 -- The orders along which the matroid within a minor runs: an order without some elements, one after a set, and one turned round after all
 -- other elements. No element stands twice in them, and each is below n.
-use Rattle.std.proofs.Common.{◌≡◌, ℕ, Bool, false, not, List, [], ◌++◌, reverse, sym, ap, ◌∙◌}
+use Rattle.mat_minors.proofs.Common.{◌≡◌, ℕ, Bool, false, not, List, [], ◌++◌, reverse, sym, ap, ◌∙◌, and_parts, both_ways, false_from_ne_true, not-true, or_left, is_member, IsRising, AllBelow, AreDistinct, minus, union, all_below, minus_parts, AreDistinct-filter, AllBelow-append, AllBelow-filter}
+use Rattle.mat_minors.proofs.Common.{AllBelow-member, AllBelow-from_members, AreDistinct-rising, IsRising-all_below, IsSet-all_below, IsSet-minus, is_member-filter, is_member-union, IsRising-minus}
 use Rattle.std.specs.List.{filter}
-use Rattle.std.proofs.lemmas.Bool.{and_parts, both_ways, false_from_ne_true, not-true, or_left}
-use Rattle.mat_sets.specs.Sets.{is_member, IsRising, AllBelow, AreDistinct, minus, union, all_below}
-use Rattle.mat_sets.proofs.DisjointSets.{minus_parts}
-use Rattle.mat_sets.proofs.DistinctLists.{AreDistinct-filter}
-use Rattle.mat_sets.proofs.Ground.{AllBelow-append, AllBelow-filter, AllBelow-member, AllBelow-from_members, AreDistinct-rising}
-use Rattle.mat_sets.proofs.Ground.{IsRising-all_below, IsSet-all_below, IsSet-minus}
 use Rattle.mat_sets.proofs.ListParts.{AreDistinct-append, AreDistinct-reverse, is_member-reverse}
-use Rattle.mat_sets.proofs.Members.{is_member-filter, is_member-union, IsRising-minus}
 
 -- ---- a set, and then an order without its members
 

@@ -1,22 +1,7 @@
 -- How many disjoint bases there are: where filled copies are not all bases, their cut allows fewer; where they are, they are most.
-use Rattle.std.proofs.Common.{◌≡◌, ◌≢◌, ◌∙◌, ℕ, zero, suc, ◌+◌, ◌-◌, ◌*◌, ◌/◌, ◌<◌, ◌≤◌, Bool, true, List, [], ◌∷◌, length, inl, inr, sym, ap, subst, arith}
-use Rattle.std.proofs.lemmas.Bool.{cases_lt, false_from_ne_true, false≢true}
+use Rattle.mat_packing.proofs.Common.{◌≡◌, ◌≢◌, ◌∙◌, ℕ, zero, suc, ◌+◌, ◌-◌, ◌*◌, ◌/◌, ◌<◌, ◌≤◌, Bool, true, List, [], ◌∷◌, length, inl, inr, sym, ap, subst, arith, cases_lt, false_from_ne_true, false≢true, family_union, all_below, minus, with_one, IsRising, IsSet, length-union-intersection}
+use Rattle.mat_packing.proofs.Common.{length-with_one, no_members, IsRising-family_union, length-complement, IsSet-nil, IsRising-nil, IsBase, IsMatroid, rank, rising, rank_is, length-independent, part_at, AreFilledCopies, AreBases, IsRightPacking, IsRoom}
 use Rattle.std.proofs.Math.Nat.{le-div_iff_mul-le}
-use Rattle.mat_sets.specs.Families.{family_union}
-use Rattle.mat_sets.specs.Sets.{all_below, minus, with_one, IsRising, IsSet}
-use Rattle.mat_sets.proofs.Cardinalities.{length-union-intersection, length-with_one}
-use Rattle.mat_sets.proofs.DisjointSets.{no_members}
-use Rattle.mat_sets.proofs.Families.{IsRising-family_union}
-use Rattle.mat_sets.proofs.Ground.{length-complement, IsSet-nil}
-use Rattle.mat_sets.proofs.Members.{IsRising-nil}
-use Rattle.mat_laws.specs.Matroids.{IsBase, IsMatroid}
-use Rattle.mat_laws.specs.Ranks.{rank}
-use Rattle.mat_laws.proofs.Independent.{rising}
-use Rattle.mat_laws.proofs.RankLaws.{rank_is, length-independent}
-use Rattle.mat_union.specs.Unions.{part_at}
-use Rattle.mat_packing.specs.FilledCopies.{AreFilledCopies}
-use Rattle.mat_packing.specs.Packings.{AreBases, IsRightPacking}
-use Rattle.mat_packing.specs.Rooms.{IsRoom}
 
 -- ---- numbers
 

@@ -1,32 +1,12 @@
 -- The components of the cut of filled copies are a partition that allows few spanning trees: each crossing edge is outside the cut, and there
 -- are as many classes as components.
-use Rattle.std.proofs.Common.{◌≡◌, ◌≢◌, ◌∙◌, ℕ, suc, ◌+◌, ◌-◌, ◌*◌, ◌<◌, ◌≤◌, Bool, true, false, not, ◌&&◌, ◌||◌, eqb, ltb, List, [], ◌∷◌, length, get_or, map, refl, sym, ap, subst, arith, ◌↔◌}
-use Rattle.std.proofs.lemmas.Bool.{and_from, and_parts, both_ways, eq-eqb, eqb-true, false_from_ne_true, lt-ltb, ltb-true, not-true, false≢true}
-use Rattle.std.proofs.lemmas.List.{get_or-map, length-map}
-use Rattle.mat_sets.specs.Families.{indicator, multiplicity}
-use Rattle.mat_sets.specs.Graphs.{ends_of, IsGraph}
-use Rattle.mat_sets.specs.Sets.{all_below, is_member, minus, IsSet, RisesFrom}
-use Rattle.mat_sets.proofs.DisjointSets.{minus_from}
-use Rattle.mat_sets.proofs.Ground.{below_member, is_member-all_below, IsRising-all_below}
-use Rattle.mat_sets.proofs.Members.{is_member-get_or, missing_below, same_members, IsRising-minus, some_from_member}
-use Rattle.mat_sets.proofs.Search.{is_member-those_below, some_below_from, IsSet-those_below}
-use Rattle.mat_sets.proofs.Subsets.{length-subset}
-use Rattle.mat_sets.proofs.Families.{multiplicity-gives}
-use Rattle.mat_laws.specs.Ranks.{rank}
-use Rattle.mat_laws.proofs.Independent.{rising}
-use Rattle.mat_laws.proofs.RankLaws.{length-independent}
-use Rattle.mat_graphic.specs.Forests.{class_of, is_graphic, least_reached, number_of_components, roots_of, IsLeastReached}
-use Rattle.mat_graphic.specs.Mergings.{least_merged}
-use Rattle.mat_graphic.specs.ComponentLaws.{least_merged-fixed, least_merged-le, member_within}
-use Rattle.mat_graphic.specs.ForestLaws.{graphic_laws}
+use Rattle.mat_packing.proofs.Common.{◌≡◌, ◌≢◌, ◌∙◌, ℕ, suc, ◌+◌, ◌-◌, ◌*◌, ◌<◌, ◌≤◌, Bool, true, false, not, ◌&&◌, ◌||◌, eqb, ltb, List, [], ◌∷◌, length, get_or, map, refl, sym, ap, subst, arith, ◌↔◌, and_from, and_parts, both_ways, eq-eqb, eqb-true, false_from_ne_true, lt-ltb, ltb-true, not-true}
+use Rattle.mat_packing.proofs.Common.{false≢true, get_or-map, length-map, indicator, multiplicity, ends_of, IsGraph, all_below, is_member, minus, IsSet, RisesFrom, minus_from, below_member, is_member-all_below, IsRising-all_below, is_member-get_or, missing_below, same_members, IsRising-minus}
+use Rattle.mat_packing.proofs.Common.{some_from_member, is_member-those_below, some_below_from, IsSet-those_below, length-subset, multiplicity-gives, rank, rising, length-independent, class_of, is_graphic, least_reached, number_of_components, roots_of, IsLeastReached, least_merged}
+use Rattle.mat_packing.proofs.Common.{least_merged-fixed, least_merged-le, member_within, graphic_laws, rank_below_vertices, part_at, is_partition, HasNoTrees, IsRightTreesAnswer, AreFilledCopies, crossing, stays, AreTrees, IsRightPartition}
 use Rattle.mat_graphic.proofs.ComponentCounts.{least_reached-merged, rank_and_number, IsLeastReached-unique}
-use Rattle.mat_graphic.proofs.ForestSizes.{rank_below_vertices}
-use Rattle.mat_union.specs.Unions.{part_at}
-use Rattle.mat_packing.specs.Answers.{is_partition, HasNoTrees, IsRightTreesAnswer}
 use Rattle.mat_packing.specs.declared.trees.Trees.{Trees}
 use Rattle.mat_packing.specs.declared.trees.Trees.TheVariants.{Trees as AllTrees, Partition}
-use Rattle.mat_packing.specs.FilledCopies.{AreFilledCopies}
-use Rattle.mat_packing.specs.Trees.{crossing, stays, AreTrees, IsRightPartition}
 use Rattle.mat_packing.proofs.BaseCounts.{short_by, union_short, AreAtMost}
 use Rattle.mat_packing.proofs.Partitions.{few_trees}
 

@@ -1,24 +1,10 @@
 -- Copies of one matroid: disjoint bases hold as many elements as there are bases times the rank, of which a cut leaves no more than it
 -- allows; and sets that cover A have room for it.
-use Rattle.std.proofs.Common.{◌≡◌, ℕ, suc, zero, ◌+◌, ◌-◌, ◌*◌, ◌<◌, ◌≤◌, Bool, true, false, List, [], ◌∷◌, length, inl, inr, refl, sym, ap, ◌∙◌, subst, arith}
-use Rattle.std.proofs.lemmas.Bool.{cases_lt, both_ways}
-use Rattle.mat_sets.specs.Sets.{all_below, is_member, minus, union, intersection, IsRising, IsSubset}
-use Rattle.mat_sets.specs.Families.{family_union}
-use Rattle.mat_sets.proofs.Members.{set_members, IsRising-minus, IsRising-intersection, only_member}
-use Rattle.mat_sets.proofs.Families.{family_union-gives}
-use Rattle.mat_sets.proofs.DisjointSets.{no_member, no_members}
-use Rattle.mat_sets.proofs.Subsets.{IsSubset-trans, intersection-left, intersection-right, minus-IsSubset}
-use Rattle.mat_sets.proofs.Cardinalities.{length-minus-intersection}
+use Rattle.mat_packing.proofs.Common.{◌≡◌, ℕ, suc, zero, ◌+◌, ◌-◌, ◌*◌, ◌<◌, ◌≤◌, Bool, true, false, List, [], ◌∷◌, length, inl, inr, refl, sym, ap, ◌∙◌, subst, arith, cases_lt, both_ways, all_below, is_member, minus, union, intersection, IsRising, IsSubset, family_union, set_members}
+use Rattle.mat_packing.proofs.Common.{IsRising-minus, IsRising-intersection, only_member, family_union-gives, no_member, no_members, IsSubset-trans, intersection-left, intersection-right, minus-IsSubset, length-minus-intersection, below_member, IsRising-all_below, IsSubset-all_below, IsMatroid}
+use Rattle.mat_packing.proofs.Common.{IsLoop, rank, rising, below, rank_is, rank-maximal, part_at, test_at, AreMatroids, AreParts, ranks_sum, cut_bounds, ranks_reached, AreBases, IsCover, IsCoverCut, IsRightPacking}
 use Rattle.mat_sets.proofs.Equalities.{intersection-subset}
-use Rattle.mat_sets.proofs.Ground.{below_member, IsRising-all_below, IsSubset-all_below}
-use Rattle.mat_laws.specs.Matroids.{IsMatroid, IsLoop}
-use Rattle.mat_laws.specs.Ranks.{rank}
-use Rattle.mat_laws.proofs.Independent.{rising, below}
 use Rattle.mat_laws.proofs.Maximal.{IsMaximal-base}
-use Rattle.mat_laws.proofs.RankLaws.{rank_is, rank-maximal}
-use Rattle.mat_union.specs.Unions.{part_at, test_at, AreMatroids, AreParts, ranks_sum}
-use Rattle.mat_union.specs.PartListLaws.{cut_bounds, ranks_reached}
-use Rattle.mat_packing.specs.Packings.{AreBases, IsCover, IsCoverCut, IsRightPacking}
 
 -- as many copies of a test
 abbrev pub copies : (List ℕ → Bool) → ℕ → List (List ℕ → Bool)

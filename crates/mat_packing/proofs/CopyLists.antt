@@ -1,16 +1,7 @@
 -- References to one matroid give copies of its test, and parts that are filled up for them are filled copies.
-use Rattle.std.proofs.Common.{◌≡◌, ◌∙◌, ℕ, ◌+◌, ◌<◌, ◌^◌, Bool, true, List, [], ◌∷◌, length, map, All, refl, sym, ap, subst, arith}
-use Rattle.std.proofs.lemmas.Bool.{both_ways}
-use Rattle.std.proofs.lemmas.List.Elements.{All-head, All-tail}
-use Rattle.mat_sets.specs.Families.{AreDisjoint}
-use Rattle.mat_sets.specs.Sets.{all_below, minus}
-use Rattle.mat_sets.proofs.DisjointSets.{minus_parts, no_members}
-use Rattle.mat_sets.proofs.Ground.{IsSet-all_below}
+use Rattle.mat_packing.proofs.Common.{◌≡◌, ◌∙◌, ℕ, ◌+◌, ◌<◌, ◌^◌, Bool, true, List, [], ◌∷◌, length, map, All, refl, sym, ap, subst, arith, both_ways, All-head, All-tail, AreDisjoint, all_below, minus, minus_parts, no_members, IsSet-all_below, IsFilled, part_at, AreParts, AreFilledCopies}
 use Rattle.mat_sets.proofs.Steps.{family_union-nil, multiplicity-none}
-use Rattle.mat_union.specs.FilledParts.{IsFilled}
-use Rattle.mat_union.specs.Unions.{part_at, AreParts}
 use Rattle.mat_union.specs.UnionsOf.{AreJoined, common_size}
-use Rattle.mat_packing.specs.FilledCopies.{AreFilledCopies}
 use Rattle.mat_packing.proofs.Copies.{copies, copy_at, length-copies, ranks-copies}
 
 module _ {R M : Type 0} (now : R → M) (m : M) where

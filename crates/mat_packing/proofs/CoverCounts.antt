@@ -1,23 +1,9 @@
 -- How few independent sets cover the elements: where filled copies leave an element out, their cut needs more; where they don't, they are
 -- fewest.
-use Rattle.std.proofs.Common.{◌≡◌, ◌≢◌, ◌∙◌, ℕ, zero, suc, ◌+◌, ◌-◌, ◌*◌, ◌/◌, ◌<◌, ◌≤◌, Bool, false, List, [], ◌∷◌, eqb, length, Some, inl, inr, refl, sym, ap, subst, arith}
-use Rattle.std.proofs.lemmas.Bool.{both_ways, cases_lt, eqb-true, lt-ltb, or_cases}
+use Rattle.mat_packing.proofs.Common.{◌≡◌, ◌≢◌, ◌∙◌, ℕ, zero, suc, ◌+◌, ◌-◌, ◌*◌, ◌/◌, ◌<◌, ◌≤◌, Bool, false, List, [], ◌∷◌, eqb, length, Some, inl, inr, refl, sym, ap, subst, arith, both_ways, cases_lt, eqb-true, lt-ltb, or_cases, family_union, all_below, is_member, IsSet, IsSubset}
+use Rattle.mat_packing.proofs.Common.{AllBelow-family_union, IsRising-family_union, below_member, is_member-all_below, length-all_below, length-complement, IsRising-all_below, IsSubset-all_below, is_member-head, length-subset, same_size_subset, IsMatroid, rank, below, rank_is, part_at, HasNoLoop}
+use Rattle.mat_packing.proofs.Common.{AreFilledCopies, IsCover, IsRightCovering, IsEnough}
 use Rattle.std.proofs.Math.Nat.{le-div_iff_mul-le}
-use Rattle.mat_sets.specs.Families.{family_union}
-use Rattle.mat_sets.specs.Sets.{all_below, is_member, IsSet, IsSubset}
-use Rattle.mat_sets.proofs.Families.{AllBelow-family_union, IsRising-family_union}
-use Rattle.mat_sets.proofs.Ground.{below_member, is_member-all_below, length-all_below, length-complement, IsRising-all_below, IsSubset-all_below}
-use Rattle.mat_sets.proofs.Members.{is_member-head}
-use Rattle.mat_sets.proofs.Subsets.{length-subset, same_size_subset}
-use Rattle.mat_laws.specs.Matroids.{IsMatroid}
-use Rattle.mat_laws.specs.Ranks.{rank}
-use Rattle.mat_laws.proofs.Independent.{below}
-use Rattle.mat_laws.proofs.RankLaws.{rank_is}
-use Rattle.mat_union.specs.Unions.{part_at}
-use Rattle.mat_packing.specs.Answers.{HasNoLoop}
-use Rattle.mat_packing.specs.FilledCopies.{AreFilledCopies}
-use Rattle.mat_packing.specs.Packings.{IsCover, IsRightCovering}
-use Rattle.mat_packing.specs.Rooms.{IsEnough}
 
 -- ---- numbers
 

@@ -1,16 +1,8 @@
 -- The loop that takes disjoint independent sets one after the other, each out of the elements that those before it left.
-use Rattle.std.proofs.Common.{◌≡◌, ◌∙◌, ℕ, ◌+◌, ◌<◌, ◌≤◌, Bool, true, false, List, [], ◌∷◌, ◌++◌, length, length-append, inl, inr, refl, sym, ap, subst, arith}
+use Rattle.mat_packing.proofs.Common.{◌≡◌, ◌∙◌, ℕ, ◌+◌, ◌<◌, ◌≤◌, Bool, true, false, List, [], ◌∷◌, ◌++◌, length, length-append, inl, inr, refl, sym, ap, subst, arith, both_ways, cases_Bool, cases_eq, false_from_ne_true, false≢true, or_cases, get_or_append_left, family_union, indicator}
+use Rattle.mat_packing.proofs.Common.{multiplicity, AreDisjoint, all_below, is_member, minus, union, IsSet, IsSubset, minus_parts, family_union-gives, multiplicity-append, multiplicity-family_union, family_union-from, IsSet-all_below, IsSet-minus, is_member-union, part_at}
 use Rattle.std.proofs.Math.Seq.{get_or-append_seam}
-use Rattle.std.proofs.lemmas.Bool.{both_ways, cases_Bool, cases_eq, false_from_ne_true, false≢true, or_cases}
-use Rattle.std.proofs.lemmas.List.{get_or_append_left}
-use Rattle.mat_sets.specs.Families.{family_union, indicator, multiplicity, AreDisjoint}
-use Rattle.mat_sets.specs.Sets.{all_below, is_member, minus, union, IsSet, IsSubset}
-use Rattle.mat_sets.proofs.DisjointSets.{minus_parts}
-use Rattle.mat_sets.proofs.Families.{family_union-gives, multiplicity-append, multiplicity-family_union, family_union-from}
-use Rattle.mat_sets.proofs.Ground.{IsSet-all_below, IsSet-minus}
-use Rattle.mat_sets.proofs.Members.{is_member-union}
 use Rattle.mat_sets.proofs.Steps.{family_union-nil, multiplicity-none}
-use Rattle.mat_union.specs.Unions.{part_at}
 
 pub record AreFirstSets (n : ℕ) (p : List ℕ → Bool) (count : ℕ) (sets : List (List ℕ)) (rest : List ℕ) : Type 0 where
   pub long : length sets ≡ count

@@ -1,3 +1,4 @@
+pub mod Common
 pub mod Copies
 pub mod Partitions
 pub mod SpanningTrees

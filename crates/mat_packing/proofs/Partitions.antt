@@ -2,30 +2,12 @@
 -- classes, so their rank leaves room for few of the trees' edges, and the others cross.
 -- Idea of the components: along the edges inside no class is left, so the least vertex of a component is in each class that the component
 -- meets; and a set that meets each of disjoint classes has at least as many members as there are classes.
-use Rattle.std.proofs.Common.{◌≡◌, ℕ, suc, ◌+◌, ◌-◌, ◌*◌, ◌<◌, ◌≤◌, Bool, true, false, not, ◌&&◌, ◌⊎◌, eqb, ltb, List, length, inl, inr, refl, sym, ap, ◌∙◌, arith}
-use Rattle.std.proofs.lemmas.Bool.{cases_eq, cases_lt, and_parts, and_from, eq-eqb, false_from_ne_true, lt-ltb}
-use Rattle.mat_sets.specs.Sets.{all_below, is_member, minus, with_one}
-use Rattle.mat_sets.specs.Families.{AreDisjoint, indicator}
+use Rattle.mat_packing.proofs.Common.{◌≡◌, ℕ, suc, ◌+◌, ◌-◌, ◌*◌, ◌<◌, ◌≤◌, Bool, true, false, not, ◌&&◌, ◌⊎◌, eqb, ltb, List, length, inl, inr, refl, sym, ap, ◌∙◌, arith, cases_eq, cases_lt, and_parts, and_from, eq-eqb, false_from_ne_true, lt-ltb, all_below, is_member, minus, with_one, AreDisjoint}
+use Rattle.mat_packing.proofs.Common.{indicator, length-with_one, disjoint-apart, length-meeting, multiplicity-nowhere, below_member, is_member-all_below, IsRising-all_below, IsSubset-all_below, is_member-minus, same_members, IsRising-minus, member_from_some, IsSet-those_below}
+use Rattle.mat_packing.proofs.Common.{is_member-those_below, some_below_gives, IsBase, rank, rising, length-independent, is_graphic, least_reached, number_of_components, least_merged, constant_on_components, least_merged-le, least_merged-fixed, graphic_laws, rank_below_vertices, part_at, cut_bounds}
+use Rattle.mat_packing.proofs.Common.{AreBases, crossing, stays, AreTrees, IsRightPartition, IsSpanningTree}
 use Rattle.mat_sets.specs.Search.{those_below}
-use Rattle.mat_sets.proofs.Cardinalities.{length-with_one}
-use Rattle.mat_sets.proofs.Families.{disjoint-apart, length-meeting, multiplicity-nowhere}
-use Rattle.mat_sets.proofs.Ground.{below_member, is_member-all_below, IsRising-all_below, IsSubset-all_below}
-use Rattle.mat_sets.proofs.Members.{is_member-minus, same_members, IsRising-minus, member_from_some}
-use Rattle.mat_sets.proofs.Search.{IsSet-those_below, is_member-those_below, some_below_gives}
-use Rattle.mat_laws.specs.Matroids.{IsBase}
-use Rattle.mat_laws.specs.Ranks.{rank}
-use Rattle.mat_laws.proofs.Independent.{rising}
-use Rattle.mat_laws.proofs.RankLaws.{length-independent}
-use Rattle.mat_graphic.specs.Forests.{is_graphic, least_reached, number_of_components}
-use Rattle.mat_graphic.specs.Mergings.{least_merged}
-use Rattle.mat_graphic.specs.ComponentLaws.{constant_on_components, least_merged-le, least_merged-fixed}
-use Rattle.mat_graphic.specs.ForestLaws.{graphic_laws}
 use Rattle.mat_graphic.proofs.ComponentCounts.{least_reached-merged, rank_and_number}
-use Rattle.mat_graphic.proofs.ForestSizes.{rank_below_vertices}
-use Rattle.mat_union.specs.Unions.{part_at}
-use Rattle.mat_union.specs.PartListLaws.{cut_bounds}
-use Rattle.mat_packing.specs.Packings.{AreBases}
-use Rattle.mat_packing.specs.Trees.{crossing, stays, AreTrees, IsRightPartition, IsSpanningTree}
 use Rattle.mat_packing.proofs.Copies.{bases_are_parts, bases_count, copies, copy_laws, ranks-copies}
 
 -- ---- partitions

@@ -1,7 +1,5 @@
 -- The test of spanning trees and its sentence say the same.
-use Rattle.std.proofs.Common.{◌≡◌, ℕ, suc, true, List, length}
-use Rattle.std.proofs.lemmas.Bool.{and_from, and_parts, eq-eqb, eqb-true}
-use Rattle.mat_packing.specs.Trees.{is_spanning_tree, IsSpanningTree}
+use Rattle.mat_packing.proofs.Common.{◌≡◌, ℕ, suc, true, List, length, and_from, and_parts, eq-eqb, eqb-true, is_spanning_tree, IsSpanningTree}
 
 pub spanning_tree_from : {vertices count : ℕ} {ends : ℕ → ℕ × ℕ} {tree : List ℕ} → IsSpanningTree vertices count ends tree → is_spanning_tree vertices count ends tree ≡ true
 spanning_tree_from {vertices} {count} {ends} {tree} t = and_from _ _ (eq-eqb (suc (length tree)) vertices t.size) t.forest

@@ -1,11 +1,7 @@
 -- The first of the heaviest, by one number more.
-use Rattle.std.proofs.Common.{◌≡◌, ℕ, ◌+◌, ◌<◌, true, false, inl, inr, refl, subst, arith}
+use Rattle.mat_reasons.proofs.Common.{◌≡◌, ℕ, ◌+◌, ◌<◌, true, false, inl, inr, refl, subst, arith, ints, ◌≼◌, ◌≺◌, is_below, Weight, IsFirstHeaviest}
 use Rattle.std.proofs.lemmas.Bool.{cases_lt}
-use Rattle.std.proofs.lemmas.Int.{ints}
 use Rattle.mat_sets.proofs.WeightOrder.{at_most_same, below_gives, not_below_gives}
-use Rattle.mat_sets.specs.Weights.{◌≼◌, ◌≺◌, is_below}
-use Rattle.mat_sets.specs.declared.weight.Weight.{Weight}
-use Rattle.mat_reasons.specs.FirstHeaviest.{IsFirstHeaviest}
 
 -- what holds of each number below k and of k
 up_to : {P : ℕ → Type 0} (k : ℕ) → ((j : ℕ) → j < k → P j) → P k → (j : ℕ) → j < k + 1 → P j

@@ -1,3 +1,4 @@
+pub mod Common
 pub mod Ranged
 pub mod Negated
 pub mod FirstHeaviest

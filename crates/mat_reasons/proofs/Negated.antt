@@ -1,14 +1,7 @@
 -- Negated weights may be summed where the weights may.
-use Rattle.std.proofs.Common.{◌≡◌, ℕ, ◌+◌, ◌<◌, List, ◌∷◌, [], ◌++◌, length, get_or, map, take, ℤ, neg_ℤ, sym, ap, subst, ◌∙◌, arith}
-use Rattle.std.proofs.lemmas.Int.{ints}
-use Rattle.std.proofs.lemmas.List.{map_more, length-map, get_or-map}
+use Rattle.mat_reasons.proofs.Common.{◌≡◌, ℕ, ◌+◌, ◌<◌, List, ◌∷◌, [], ◌++◌, length, get_or, map, take, ℤ, neg_ℤ, sym, ap, subst, ◌∙◌, arith, ints, map_more, length-map, get_or-map, largest_number, AllBelow, zero_weight, negated, AreWeightsWithin, IsWeightWithin, Weight, AreSummable}
 use Rattle.std.proofs.lemmas.List.Elements.{All-get_or, All-from_get_or}
-use Rattle.mat_sets.specs.Limits.{largest_number}
-use Rattle.mat_sets.specs.Sets.{AllBelow}
 use Rattle.mat_sets.specs.Sums.{IsWithin}
-use Rattle.mat_sets.specs.Weights.{zero_weight, negated, AreWeightsWithin, IsWeightWithin}
-use Rattle.mat_sets.specs.declared.weight.Weight.{Weight}
-use Rattle.mat_reasons.specs.Sums.{AreSummable}
 
 pub negated_more : (weights others new : List Weight) (i : ℕ) → i < length weights
     → new ≡ others ++ negated (get_or weights i zero_weight) ∷ [] → others ≡ map negated (take i weights)

@@ -1,15 +1,9 @@
 -- The rungs of a certificate in range: their shares may be summed, and their sets are sets of elements.
-use Rattle.std.proofs.Common.{ℕ, ◌≤◌, List, get_or, subst, sym, arith}
-use Rattle.std.specs.Prelude.{All}
+use Rattle.mat_reasons.proofs.Common.{ℕ, ◌≤◌, List, get_or, subst, sym, arith, All, most_elements, AllBelow, IsSet, IsSet-length, Weight, AreSummable, HasSummableShares}
 use Rattle.std.proofs.lemmas.Option.{slice_get-get_or}
-use Rattle.mat_sets.specs.Limits.{most_elements}
-use Rattle.mat_sets.specs.Sets.{AllBelow, IsSet}
-use Rattle.mat_sets.proofs.Ground.{IsSet-length}
-use Rattle.mat_sets.specs.declared.weight.Weight.{Weight}
 use Rattle.mat_cert.specs.Certificates.{AreRangedRungs, IsRangedPart, IsRangedPlainRung, IsRangedPricedRung}
 use Rattle.mat_cert.specs.declared.answer.PlainRung.{PlainRung}
 use Rattle.mat_cert.specs.declared.answer.PricedRung.{PricedRung}
-use Rattle.mat_reasons.specs.Sums.{AreSummable, HasSummableShares}
 
 -- one part of a split may be summed over a set
 pub part_summable : (n : ℕ) (set : List ℕ) (part : List Weight) → n ≤ most_elements → IsSet n set → IsRangedPart n part → AreSummable part set

@@ -1,14 +1,9 @@
 -- The members of a set of bits are collected word after word, and the bits of a word from the lowest on: those so far are the members below the
 -- next one, which is put at the end.
-use Rattle.std.proofs.Common.{◌≡◌, ℕ, ◌+◌, ◌-◌, ◌*◌, ◌%◌, ◌^◌, ◌<◌, ◌≤◌, true, false, ◌&&◌, ltb, bit_and, w64}
-use Rattle.std.proofs.Common.{List, [], ◌∷◌, ◌++◌, inl, inr, refl, sym, ap, ◌∙◌, subst, arith}
+use Rattle.mat_sets.proofs.Common.{◌≡◌, ℕ, ◌+◌, ◌-◌, ◌*◌, ◌%◌, ◌^◌, ◌<◌, ◌≤◌, true, false, ◌&&◌, ltb, bit_and, w64, List, [], ◌∷◌, ◌++◌, inl, inr, refl, sym, ap, ◌∙◌, subst, arith, and_parts, and_right, cases_eq, cases_lt, eq-eqb, le-ltb, lt-ltb, ltb-true, ne_eqb, and_le_l, AreMembersBelow}
+use Rattle.mat_sets.proofs.Common.{IsWordOf, IsFirstFrom, is_member, with_one, AllBelow, IsRising}
 use Rattle.std.specs.Int.{bit_at, bit_not, trailing_zeros}
-use Rattle.std.proofs.lemmas.Bool.{and_parts, and_right, cases_eq, cases_lt, eq-eqb, le-ltb, lt-ltb, ltb-true, ne_eqb}
-use Rattle.std.proofs.lemmas.Nat.{and_le_l}
 use Rattle.std.proofs.lemmas.Nat.Bits.{bit_at-trailing_zeros, bit_at-zero, bit_at_clear_other, bit_at_clear_same}
-use Rattle.mat_sets.specs.Bits.{AreMembersBelow, IsWordOf}
-use Rattle.mat_sets.specs.Search.{IsFirstFrom}
-use Rattle.mat_sets.specs.Sets.{is_member, with_one, AllBelow, IsRising}
 use Rattle.mat_sets.proofs.Ground.{AllBelow-from_members}
 use Rattle.mat_sets.proofs.Members.{is_member-with_one, same_members, IsRising-nil, IsRising-with_one}
 use Rattle.mat_sets.proofs.Truths.{and_all}

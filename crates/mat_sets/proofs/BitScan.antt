@@ -1,12 +1,8 @@
 -- The search for the first number in two sets of bits, word by word: what both words and a mask have in common is 0, or
 -- its lowest bit is the number sought. The mask leaves out the numbers below the first.
-use Rattle.std.proofs.Common.{Bool, List, ap, arith, bit_and, eqb, false, get_or, inl, inr, length, min, sym, true, w64, ℕ, ◌&&◌, ◌+◌, ◌-◌, ◌*◌, ◌/◌, ◌%◌, ◌^◌, ◌<◌, ◌∙◌, ◌≡◌, ◌≤◌}
+use Rattle.mat_sets.proofs.Common.{Bool, List, ap, arith, bit_and, eqb, false, get_or, inl, inr, length, min, sym, true, w64, ℕ, ◌&&◌, ◌+◌, ◌-◌, ◌*◌, ◌/◌, ◌%◌, ◌^◌, ◌<◌, ◌∙◌, ◌≡◌, ◌≤◌, and_from, and_left, and_right, cases_lt, eq-eqb, ne_eqb, bits_of, has_bit, IsFirstFrom, is_member}
 use Rattle.std.specs.Int.{bit_at, trailing_zeros}
-use Rattle.std.proofs.lemmas.Bool.{and_from, and_left, and_right, cases_lt, eq-eqb, ne_eqb}
 use Rattle.std.proofs.lemmas.Nat.Bits.{bit_at-lt, bit_at-trailing_zeros, bit_at-zero, bit_at_and, bit_at_mask_below, bit_at_mask_inside, bit_at_ones, ones_shl}
-use Rattle.mat_sets.specs.Bits.{bits_of, has_bit}
-use Rattle.mat_sets.specs.Search.{IsFirstFrom}
-use Rattle.mat_sets.specs.Sets.{is_member}
 use Rattle.mat_sets.proofs.Bits.{has_bit_past, is_member-bits_of}
 
 -- whether x is in both sets

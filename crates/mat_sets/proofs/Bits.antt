@@ -1,13 +1,10 @@
 -- Words of 64 bits seen as sets: a number is a member exactly where its bit is set, so each change of a word is proved
 -- bit by bit, and two lists of words with the same bits are one set.
-use Rattle.std.proofs.Common.{List, [], ap, arith, bit_and, bit_or, cond, eqb, false, get_or, inl, inr, length, ltb, max, min, not, refl, replicate, set, subst, suc, sym, w64, zero, ℕ, ◌+◌, ◌&&◌, ◌++◌, ◌-◌, ◌*◌, ◌/◌, ◌%◌, ◌^◌, ◌<◌, ◌||◌, ◌∙◌, ◌∷◌, ◌≡◌, ◌≤◌}
+use Rattle.mat_sets.proofs.Common.{List, [], ap, arith, bit_and, bit_or, cond, eqb, false, get_or, inl, inr, length, ltb, max, min, not, refl, replicate, set, subst, suc, sym, w64, zero, ℕ, ◌+◌, ◌&&◌, ◌++◌, ◌-◌, ◌*◌, ◌/◌, ◌%◌, ◌^◌, ◌<◌, ◌||◌, ◌∙◌, ◌∷◌, ◌≡◌, ◌≤◌, and_right, cases_eq, cases_lt}
+use Rattle.mat_sets.proofs.Common.{cond-false, cond-true, eq-eqb, le-ltb, lt-ltb, ne_eqb, get_or-append_right, get_or_append_left, get_or-replicate, get_or-set_other, get_or-set_same, get_or_past, get_or_read, length-replicate, bits_of, has_bit, IsRising, all_below, is_member, with_one, without_one}
 use Rattle.std.specs.Int.{bit_at, bit_not}
 use Rattle.std.specs.Int.Bits.{or_zero_r}
-use Rattle.std.proofs.lemmas.Bool.{and_right, cases_eq, cases_lt, cond-false, cond-true, eq-eqb, le-ltb, lt-ltb, ne_eqb}
-use Rattle.std.proofs.lemmas.List.{get_or-append_right, get_or_append_left, get_or-replicate, get_or-set_other, get_or-set_same, get_or_past, get_or_read, length-replicate}
 use Rattle.std.proofs.lemmas.Nat.Bits.{bit_at-lt, bit_at-zero, bit_at_and, bit_at_not, bit_at_or, bit_at_clear_other, bit_at_clear_same, bit_at_ones, bit_at_ones_above, bit_at_set_other, bit_at_set_same, shr_and_one}
-use Rattle.mat_sets.specs.Bits.{bits_of, has_bit}
-use Rattle.mat_sets.specs.Sets.{IsRising, all_below, is_member, with_one, without_one}
 use Rattle.mat_sets.proofs.Ground.{IsRising-all_below, is_member-all_below}
 use Rattle.mat_sets.proofs.Members.{IsRising-nil, IsRising-with_one, IsRising-without_one, is_member-with_one, is_member-without_one, same_members, without_one-missing}
 use Rattle.mat_sets.proofs.Search.{IsSet-those_below, is_member-those_below}

@@ -1,9 +1,5 @@
 -- Sizes and sums of the sets made of others, and induction over sets.
-use Rattle.std.proofs.Common.{List, [], arith, false, length, neg_ℤ, pos, refl, suc, true, ℕ, ℤ, ◌*◌, ◌+ℤ◌, ◌+◌, ◌∷◌, ◌≡◌, ◌≤ℤ◌}
-use Rattle.std.proofs.lemmas.Int.{ints}
-use Rattle.mat_sets.specs.Families.{indicator}
-use Rattle.mat_sets.specs.Sets.{IsRising, IsSubset, intersection, is_member, minus, union, with_one, without_one}
-use Rattle.mat_sets.specs.Sums.{sum_of}
+use Rattle.mat_sets.proofs.Common.{List, [], arith, false, length, neg_ℤ, pos, refl, suc, true, ℕ, ℤ, ◌*◌, ◌+ℤ◌, ◌+◌, ◌∷◌, ◌≡◌, ◌≤ℤ◌, ints, indicator, IsRising, IsSubset, intersection, is_member, minus, union, with_one, without_one, sum_of}
 use Rattle.mat_sets.proofs.Members.{IsRising-intersection, IsRising-minus, IsRising-nil, IsRising-union, IsRising-with_one, IsRising-without_one, is_member-head, set_members}
 use Rattle.mat_sets.proofs.Sums.{balance, sizes}
 

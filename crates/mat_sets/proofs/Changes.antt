@@ -1,6 +1,5 @@
 -- Sets after one member more or less, in any order.
-use Rattle.std.proofs.Common.{◌≡◌, ℕ, ◌<◌, true, false, eqb, List, arith}
-use Rattle.mat_sets.specs.Sets.{is_member, IsRising, IsSubset, AllBelow, with_one, without_one}
+use Rattle.mat_sets.proofs.Common.{◌≡◌, ℕ, ◌<◌, true, false, eqb, List, arith, is_member, IsRising, IsSubset, AllBelow, with_one, without_one}
 use Rattle.mat_sets.proofs.Members.{set_members, same_members, IsRising-with_one, IsRising-without_one}
 use Rattle.mat_sets.proofs.Ground.{AllBelow-member, AllBelow-from_members}
 

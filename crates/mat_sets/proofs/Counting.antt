@@ -1,8 +1,5 @@
 -- The numbers that pass a test, counted one after the other.
-use Rattle.std.proofs.Common.{◌≡◌, ℕ, ◌+◌, ◌≤◌, Bool, true, false, ltb, length, sym, ap, ◌∙◌, arith}
-use Rattle.std.proofs.lemmas.Bool.{and_parts, false_from_ne_true, ltb-true}
-use Rattle.mat_sets.specs.Search.{those_below}
-use Rattle.mat_sets.specs.Sets.{is_member}
+use Rattle.mat_sets.proofs.Common.{◌≡◌, ℕ, ◌+◌, ◌≤◌, Bool, true, false, ltb, length, sym, ap, ◌∙◌, arith, and_parts, false_from_ne_true, ltb-true, those_below, is_member}
 use Rattle.mat_sets.proofs.Cardinalities.{length-with_one}
 use Rattle.mat_sets.proofs.Rounds.{those_below-put, those_below-skip}
 use Rattle.mat_sets.proofs.Search.{is_member-those_below, IsSet-those_below, length-those_below_most}

@@ -1,11 +1,9 @@
 -- The number of arcs that enter a vertex set: it is submodular, one arc less lowers it by at most one, and lists of arcs that share none,
 -- each of which has an arc that enters, are at most as many.
-use Rattle.std.proofs.Common.{if◌then◌else◌, ◌≡◌, ℕ, suc, ◌+◌, ◌<◌, ◌≤◌, Bool, true, false, not, ◌&&◌, ◌||◌, eqb, List, [], ◌∷◌, length, get_or, inl, inr, refl, sym, ap, ◌∙◌, subst, arith}
-use Rattle.std.proofs.lemmas.Bool.{and_right, and_from, and_parts, both_ways, cases_Bool, eqb-true, false_from_ne_true, false≢true, not-true, or_cases}
+use Rattle.mat_sets.proofs.Common.{if◌then◌else◌, ◌≡◌, ℕ, suc, ◌+◌, ◌<◌, ◌≤◌, Bool, true, false, not, ◌&&◌, ◌||◌, eqb, List, [], ◌∷◌, length, get_or, inl, inr, refl, sym, ap, ◌∙◌, subst, arith, and_right, and_from, and_parts, both_ways, cases_Bool, eqb-true, false_from_ne_true, false≢true, not-true}
+use Rattle.mat_sets.proofs.Common.{or_cases, indicator, AreDisjoint, is_member, intersection, union, without_one, AreDistinct, IsRising, IsSubset}
 use Rattle.std.specs.List.{concat, filter}
-use Rattle.mat_sets.specs.Families.{indicator, AreDisjoint}
 use Rattle.mat_sets.specs.Graphs.{ends_of, enters, entering, DirectedWalk, IsRootFree, IsSpanningArborescence, IsUnentered}
-use Rattle.mat_sets.specs.Sets.{is_member, intersection, union, without_one, AreDistinct, IsRising, IsSubset}
 use Rattle.mat_sets.proofs.Cardinalities.{length-without_one}
 use Rattle.mat_sets.proofs.DisjointLists.{AreDisjoint-first}
 use Rattle.mat_sets.proofs.Families.{AreDisjoint-tail}

@@ -1,9 +1,6 @@
 -- Lists of which no two share a member, joined end to end.
-use Rattle.std.proofs.Common.{◌≡◌, ℕ, ◌<◌, true, false, List, [], ◌∷◌, inl, inr, refl, sym, ◌∙◌, arith}
-use Rattle.std.proofs.lemmas.Bool.{cases_Bool, false_from_ne_true, false≢true, or_cases, or_parts}
+use Rattle.mat_sets.proofs.Common.{◌≡◌, ℕ, ◌<◌, true, false, List, [], ◌∷◌, inl, inr, refl, sym, ◌∙◌, arith, cases_Bool, false_from_ne_true, false≢true, or_cases, or_parts, AreDisjoint, indicator, multiplicity, is_member, AreDistinct}
 use Rattle.std.specs.List.{concat}
-use Rattle.mat_sets.specs.Families.{AreDisjoint, indicator, multiplicity}
-use Rattle.mat_sets.specs.Sets.{is_member, AreDistinct}
 use Rattle.mat_sets.proofs.ListParts.{AreDistinct-apart, AreDistinct-rest}
 use Rattle.mat_sets.proofs.Members.{is_member-append}
 

@@ -1,8 +1,6 @@
 -- Members of a difference; what it means that a difference or an intersection of two sets is empty; and unions of disjoint sets.
-use Rattle.std.proofs.Common.{◌≡◌, ℕ, ◌+◌, ◌<◌, true, false, not, eqb, List, [], ◌∷◌, length, inl, inr, refl, sym, ap, ◌∙◌, arith}
-use Rattle.std.proofs.lemmas.Bool.{cases_Bool, or_cases, and_parts, and_from, eqb-true, eq-eqb, false≢true, both_ways, false_from_ne_true, lt-ltb, not-true, cases_eq, ne_eqb}
-use Rattle.std.proofs.lemmas.List.{nil_from_length}
-use Rattle.mat_sets.specs.Sets.{all_below, is_member, IsRising, IsSubset, with_one, minus, intersection, union, without_one}
+use Rattle.mat_sets.proofs.Common.{◌≡◌, ℕ, ◌+◌, ◌<◌, true, false, not, eqb, List, [], ◌∷◌, length, inl, inr, refl, sym, ap, ◌∙◌, arith, cases_Bool, or_cases, and_parts, and_from, eqb-true, eq-eqb, false≢true, both_ways, false_from_ne_true, lt-ltb, not-true, cases_eq, ne_eqb, nil_from_length}
+use Rattle.mat_sets.proofs.Common.{all_below, is_member, IsRising, IsSubset, with_one, minus, intersection, union, without_one}
 use Rattle.mat_sets.proofs.Members.{set_members, same_members, is_member-with_one, is_member-head, is_member-minus, is_member-intersection, is_member-union, IsRising-nil, IsRising-with_one, IsRising-union, IsRising-minus, IsRising-intersection, IsRising-without_one}
 use Rattle.mat_sets.proofs.Subsets.{length-subset, union-IsSubset}
 use Rattle.mat_sets.proofs.Cardinalities.{length-union_apart, length-minus-intersection}

@@ -1,10 +1,7 @@
 -- Lists in which no item stands twice. Of n items among which each number below n stands, none stands twice, since the set of the
 -- items has n members.
-use Rattle.std.proofs.Common.{◌≡◌, ℕ, suc, ◌<◌, ◌≤◌, Bool, true, false, ◌&&◌, cond, List, [], ◌∷◌, length}
-use Rattle.std.proofs.Common.{inl, inr, refl, sym, ap, ◌∙◌, arith}
+use Rattle.mat_sets.proofs.Common.{◌≡◌, ℕ, suc, ◌<◌, ◌≤◌, Bool, true, false, ◌&&◌, cond, List, [], ◌∷◌, length, inl, inr, refl, sym, ap, ◌∙◌, arith, cases_Bool, ltb-true, is_member, IsRising, AreDistinct, with_one, union, all_below}
 use Rattle.std.specs.List.{filter}
-use Rattle.std.proofs.lemmas.Bool.{cases_Bool, ltb-true}
-use Rattle.mat_sets.specs.Sets.{is_member, IsRising, AreDistinct, with_one, union, all_below}
 use Rattle.mat_sets.proofs.Members.{is_member-filter, is_member-union, with_one-member, IsRising-nil, IsRising-union}
 use Rattle.mat_sets.proofs.Cardinalities.{length-with_one}
 use Rattle.mat_sets.proofs.Subsets.{length-subset, union-left}

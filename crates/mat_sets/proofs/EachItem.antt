@@ -1,6 +1,5 @@
 -- What holds of each item of a list, for a part of the list, an item of it and one item more.
-use Rattle.std.proofs.Common.{ℕ, zero, suc, ◌+◌, ◌<◌, List, [], ◌∷◌, ◌++◌, length, get_or, take, sym, subst, arith}
-use Rattle.std.proofs.lemmas.List.{take_more}
+use Rattle.mat_sets.proofs.Common.{ℕ, zero, suc, ◌+◌, ◌<◌, List, [], ◌∷◌, ◌++◌, length, get_or, take, sym, subst, arith, take_more}
 use Rattle.std.specs.List.{AllByRecursion}
 
 pub AllByRecursion-take : {X : Type 0} (P : X → Type 0) (xs : List X) (i : ℕ) → AllByRecursion P xs → AllByRecursion P (take i xs)

@@ -1,6 +1,5 @@
 -- Equations of two or three sets, each by its members. Those of one set and single elements stand in Changes.
-use Rattle.std.proofs.Common.{List, arith, ℕ, ◌≡◌}
-use Rattle.mat_sets.specs.Sets.{IsRising, IsSubset, intersection, minus, union, with_one}
+use Rattle.mat_sets.proofs.Common.{List, arith, ℕ, ◌≡◌, IsRising, IsSubset, intersection, minus, union, with_one}
 use Rattle.mat_sets.proofs.Members.{IsRising-intersection, IsRising-minus, IsRising-union, IsRising-with_one, same_members, set_members}
 
 -- ---- two sets

@@ -1,13 +1,8 @@
 -- Families of sets: how often a number stands in them, their union and their sums.
-use Rattle.std.proofs.Common.{Bool, List, [], ap, arith, false, get_or, inl, inr, length, pos, refl, suc, sym, true, zero, ℕ, ℤ, ◌++◌, ◌+◌, ◌<◌, ◌||◌, ◌∙◌, ◌∷◌, ◌≡◌, ◌≢◌, ◌≤◌}
-use Rattle.std.proofs.lemmas.Bool.{and_from, cases_Bool, false≢true, or_cases, or_left, or_right, both_ways, cases_lt, cases_order, false_from_ne_true, not_from_false}
-use Rattle.std.proofs.lemmas.Int.{ints}
-use Rattle.std.proofs.lemmas.List.{get_or_past}
+use Rattle.mat_sets.proofs.Common.{Bool, List, [], ap, arith, false, get_or, inl, inr, length, pos, refl, suc, sym, true, zero, ℕ, ℤ, ◌++◌, ◌+◌, ◌<◌, ◌||◌, ◌∙◌, ◌∷◌, ◌≡◌, ◌≢◌, ◌≤◌, and_from, cases_Bool, false≢true, or_cases, or_left, or_right, both_ways, cases_lt, cases_order, false_from_ne_true}
+use Rattle.mat_sets.proofs.Common.{not_from_false, ints, get_or_past, AllRising, AreDisjoint, family_sum, family_union, indicator, multiplicity, AllBelow, IsRising, IsSet, intersection, is_member, minus, sum_of}
 use Rattle.std.proofs.lemmas.List.Sums.{sum_by-cons}
 use Rattle.std.specs.List.{sum_by, All}
-use Rattle.mat_sets.specs.Families.{AllRising, AreDisjoint, family_sum, family_union, indicator, multiplicity}
-use Rattle.mat_sets.specs.Sets.{AllBelow, IsRising, IsSet, intersection, is_member, minus}
-use Rattle.mat_sets.specs.Sums.{sum_of}
 use Rattle.mat_sets.proofs.Cardinalities.{length-minus-intersection}
 use Rattle.mat_sets.proofs.Ground.{AllBelow-from_members, AllBelow-member, below_member}
 use Rattle.mat_sets.proofs.Members.{IsRising-minus, IsRising-nil, IsRising-union, is_member-intersection, is_member-minus, is_member-union, some_from_member}

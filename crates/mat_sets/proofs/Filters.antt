@@ -1,9 +1,6 @@
 -- Filters of a list: by a test that each item passes, or none; collected item by item in rising order; and over a union of two sets.
-use Rattle.std.proofs.Common.{◌≡◌, ℕ, ◌+◌, ◌<◌, Bool, true, false, ◌&&◌, ◌||◌, eqb, List, [], ◌∷◌, length, get_or, take, refl, sym, ap, ◌∙◌, inl, inr, append-nil, not, arith}
-use Rattle.std.proofs.lemmas.Bool.{cases_eq, both_ways, ne_eqb, or_right, and_parts}
-use Rattle.std.proofs.lemmas.List.Elements.{filter_more}
+use Rattle.mat_sets.proofs.Common.{◌≡◌, ℕ, ◌+◌, ◌<◌, Bool, true, false, ◌&&◌, ◌||◌, eqb, List, [], ◌∷◌, length, get_or, take, refl, sym, ap, ◌∙◌, inl, inr, append-nil, not, arith, cases_eq, both_ways, ne_eqb, or_right, and_parts, filter_more, is_member, IsRising, minus, union, with_one}
 use Rattle.std.specs.List.{filter}
-use Rattle.mat_sets.specs.Sets.{is_member, IsRising, minus, union, with_one}
 use Rattle.mat_sets.proofs.DisjointSets.{no_members}
 use Rattle.mat_sets.proofs.Members.{same_members, is_member-head, is_member-filter, is_member-with_one, RisesFrom-filter, IsRising-with_one, is_member-minus, is_member-union, IsRising-minus, IsRising-union}
 use Rattle.mat_sets.proofs.Steps.{IsRising-take, is_member-take_more}

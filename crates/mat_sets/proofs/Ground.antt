@@ -1,10 +1,8 @@
 -- Sets on n elements: the set of all numbers below n, complements, and unions with a list in any order.
-use Rattle.std.proofs.Common.{Bool, List, [], ap, arith, eqb, false, get_or, inl, inr, leb, length, ltb, map, refl, suc, sym, true, zero, ℕ, ◌&&◌, ◌++◌, ◌+◌, ◌<◌, ◌||◌, ◌∙◌, ◌∷◌, ◌≡◌, ◌≤◌}
+use Rattle.mat_sets.proofs.Common.{Bool, List, [], ap, arith, eqb, false, get_or, inl, inr, leb, length, ltb, map, refl, suc, sym, true, zero, ℕ, ◌&&◌, ◌++◌, ◌+◌, ◌<◌, ◌||◌, ◌∙◌, ◌∷◌, ◌≡◌, ◌≤◌, and_parts, and_right, both_ways, cases_lt, cases_order, eq-eqb, eqb-true, false≢true, le-leb, le-ltb}
+use Rattle.mat_sets.proofs.Common.{lt-leb, lt-ltb, ltb-true, ne_eqb, or_cases, get_or-map, length-map, map-append, AllBelow, AreDistinct, IsRising, IsSet, IsSubset, RisesFrom, all_below, counted_from, intersection, is_member, minus, rising_insert, union, with_one, without_one}
 use Rattle.std.proofs.Math.Numerals.{add-one}
-use Rattle.std.proofs.lemmas.Bool.{and_parts, and_right, both_ways, cases_lt, cases_order, eq-eqb, eqb-true, false≢true, le-leb, le-ltb, lt-leb, lt-ltb, ltb-true, ne_eqb, or_cases}
-use Rattle.std.proofs.lemmas.List.{get_or-map, length-map, map-append}
 use Rattle.std.specs.List.{filter}
-use Rattle.mat_sets.specs.Sets.{AllBelow, AreDistinct, IsRising, IsSet, IsSubset, RisesFrom, all_below, counted_from, intersection, is_member, minus, rising_insert, union, with_one, without_one}
 use Rattle.mat_sets.proofs.Cardinalities.{length-minus-intersection, length-with_one}
 use Rattle.mat_sets.proofs.Members.{IsRising-intersection, IsRising-minus, IsRising-nil, IsRising-union, IsRising-with_one, IsRising-without_one, is_member-filter, is_member-head, is_member-union, is_member-with_one, missing_below, same_members, set_members}
 use Rattle.mat_sets.proofs.Subsets.{intersection-left, length-subset, minus-IsSubset, union-IsSubset, without_one-IsSubset}

@@ -1,13 +1,7 @@
 -- The search for a shortest walk by levels, where unreached vertices are kept as a set: what is not reached after k rounds has
 -- the level k + 1, so a round finds the next levels. The vertices before lead down one level at a time.
-use Rattle.std.proofs.Common.{Bool, List, [], ap, arith, cond, eqb, false, get_or, inl, inr, leb, length, ltb, not, refl, replicate, subst, suc, sym, true, zero, ℕ, ◌&&◌, ◌+◌, ◌-◌, ◌<◌, ◌∙◌, ◌∷◌, ◌≡◌, ◌≤◌, ◌⊎◌}
-use Rattle.std.proofs.lemmas.Bool.{and_from, and_parts, both_ways, cases_Bool, cases_lt, cond-true, eq-eqb, eqb-true, false_from_ne_true, false≢true, le-leb, le-ltb, lt-leb, lt-ltb, ltb-true, ne_eqb, or_cases, or_left, or_right}
-use Rattle.std.proofs.lemmas.Bool.Decides.{nat_tests}
-use Rattle.std.proofs.lemmas.List.{get_or-replicate, length-replicate}
-use Rattle.mat_sets.specs.Rounds.{IsRound, IsTrace, is_next}
-use Rattle.mat_sets.specs.Search.{those_below}
-use Rattle.mat_sets.specs.Sets.{all_below, is_member}
-use Rattle.mat_sets.specs.Walks.{IsReachedSet, IsShortestWalk}
+use Rattle.mat_sets.proofs.Common.{Bool, List, [], ap, arith, cond, eqb, false, get_or, inl, inr, leb, length, ltb, not, refl, replicate, subst, suc, sym, true, zero, ℕ, ◌&&◌, ◌+◌, ◌-◌, ◌<◌, ◌∙◌, ◌∷◌, ◌≡◌, ◌≤◌, ◌⊎◌, and_from, and_parts, both_ways, cases_Bool, cases_lt, cond-true, eq-eqb, eqb-true}
+use Rattle.mat_sets.proofs.Common.{false_from_ne_true, false≢true, le-leb, le-ltb, lt-leb, lt-ltb, ltb-true, ne_eqb, or_cases, or_left, or_right, nat_tests, get_or-replicate, length-replicate, IsRound, IsTrace, is_next, those_below, all_below, is_member, IsReachedSet, IsShortestWalk}
 use Rattle.mat_sets.proofs.DisjointSets.{no_member}
 use Rattle.mat_sets.proofs.Ground.{is_member-all_below}
 use Rattle.mat_sets.proofs.Levels.{AreLevels, first_levels, follows, follows_level, missed_goals, next_level, next_level_is, next_levels, shortest_by}

@@ -1,12 +1,8 @@
 -- The search for a walk with fewest vertices. Each vertex gets a level, the number of arcs of a shortest walk from a start.
 -- Levels rise by at most one along an arc, so a walk to a goal whose level is its number of arcs is shortest, and its
 -- vertices have the levels 0, 1, and so on. The levels are found one after the other, until a goal or nothing new is found.
-use Rattle.std.proofs.Common.{Bool, List, [], ap, arith, cond, eqb, false, get_or, inl, inr, leb, length, not, refl, subst, suc, sym, true, zero, ℕ, ◌&&◌, ◌+◌, ◌<◌, ◌∙◌, ◌∷◌, ◌≡◌, ◌≤◌, ◌⊎◌}
-use Rattle.std.proofs.lemmas.Bool.{and_from, and_parts, both_ways, cases_Bool, cases_eq, cases_lt, cond-false, cond-true, eq-eqb, eqb-true, false_from_ne_true, le-leb, leb-false, lt-leb, not-true}
-use Rattle.std.proofs.lemmas.Bool.Decides.{nat_tests}
-use Rattle.mat_sets.specs.Search.{some_below, those_below}
-use Rattle.mat_sets.specs.Sets.{is_member}
-use Rattle.mat_sets.specs.Walks.{IsChordless, IsReachedSet, IsShortestWalk, IsWalk}
+use Rattle.mat_sets.proofs.Common.{Bool, List, [], ap, arith, cond, eqb, false, get_or, inl, inr, leb, length, not, refl, subst, suc, sym, true, zero, ℕ, ◌&&◌, ◌+◌, ◌<◌, ◌∙◌, ◌∷◌, ◌≡◌, ◌≤◌, ◌⊎◌, and_from, and_parts, both_ways, cases_Bool, cases_eq, cases_lt, cond-false, cond-true, eq-eqb, eqb-true}
+use Rattle.mat_sets.proofs.Common.{false_from_ne_true, le-leb, leb-false, lt-leb, not-true, nat_tests, some_below, those_below, is_member, IsChordless, IsReachedSet, IsShortestWalk, IsWalk}
 use Rattle.mat_sets.proofs.Search.{IsSet-those_below, is_member-those_below, length-those_below_less, some_below_from, some_below_gives}
 
 -- the list of f 0, f 1, ..

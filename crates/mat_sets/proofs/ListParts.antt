@@ -1,8 +1,6 @@
 -- Parts of lists: a list split at a member; lists without repetition that are joined, cut, or turned round.
-use Rattle.std.proofs.Common.{◌≡◌, ℕ, suc, ◌<◌, ◌≢◌, Bool, true, false, ◌||◌, eqb, List, [], ◌∷◌, ◌++◌, length, get_or, reverse, inl, inr, refl, sym, ap, ◌∙◌, arith}
-use Rattle.std.proofs.lemmas.Bool.{both_ways, cases_Bool, cases_eq, cases_lt, eqb-true, false_from_ne_true, false≢true, or_cases, or_from, or_left, or_parts, or_right}
-use Rattle.std.proofs.lemmas.List.{reverse-append}
-use Rattle.mat_sets.specs.Sets.{is_member, AreDistinct}
+use Rattle.mat_sets.proofs.Common.{◌≡◌, ℕ, suc, ◌<◌, ◌≢◌, Bool, true, false, ◌||◌, eqb, List, [], ◌∷◌, ◌++◌, length, get_or, reverse, inl, inr, refl, sym, ap, ◌∙◌, arith, both_ways, cases_Bool, cases_eq, cases_lt, eqb-true, false_from_ne_true, false≢true, or_cases, or_from, or_left, or_parts}
+use Rattle.mat_sets.proofs.Common.{or_right, reverse-append, is_member, AreDistinct}
 use Rattle.mat_sets.proofs.Members.{is_member-append, is_member-head, is_member-nowhere}
 
 -- ---- members

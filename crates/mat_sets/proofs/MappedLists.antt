@@ -1,7 +1,5 @@
 -- Lists whose items a function maps: their members, that no item stands twice, and that functions with the same values make the same list.
-use Rattle.std.proofs.Common.{◌≡◌, ℕ, true, eqb, List, [], ◌∷◌, map, inl, inr, refl, sym, ap, ◌∙◌}
-use Rattle.std.proofs.lemmas.Bool.{both_ways, eq-eqb, eqb-true, false_from_ne_true, false≢true, or_cases, or_left, or_right}
-use Rattle.mat_sets.specs.Sets.{is_member, AreDistinct}
+use Rattle.mat_sets.proofs.Common.{◌≡◌, ℕ, true, eqb, List, [], ◌∷◌, map, inl, inr, refl, sym, ap, ◌∙◌, both_ways, eq-eqb, eqb-true, false_from_ne_true, false≢true, or_cases, or_left, or_right, is_member, AreDistinct}
 use Rattle.mat_sets.proofs.ListParts.{is_member-tail}
 use Rattle.mat_sets.proofs.Members.{is_member-head}
 

@@ -1,9 +1,8 @@
 -- Members of rising lists, and of the sets made of others. Two rising lists with the same members are one list, and
 -- each operation has one law that says its members: so an equation of sets is proved member by member.
-use Rattle.std.proofs.Common.{Bool, List, [], ap, arith, cond, drop, eqb, false, get_or, inl, inr, length, ltb, not, refl, subst, suc, sym, true, zero, ℕ, ◌&&◌, ◌++◌, ◌<◌, ◌||◌, ◌∙◌, ◌∷◌, ◌≡◌, ◌≤◌}
-use Rattle.std.proofs.lemmas.Bool.{and_right, both_ways, cases_eq, cases_lt, cases_order, eq-eqb, eqb-true, false≢true, le-ltb, lt-ltb, ne_eqb, or_from, or_right}
+use Rattle.mat_sets.proofs.Common.{Bool, List, [], ap, arith, cond, drop, eqb, false, get_or, inl, inr, length, ltb, not, refl, subst, suc, sym, true, zero, ℕ, ◌&&◌, ◌++◌, ◌<◌, ◌||◌, ◌∙◌, ◌∷◌, ◌≡◌, ◌≤◌, and_right, both_ways, cases_eq, cases_lt, cases_order, eq-eqb, eqb-true, false≢true, le-ltb}
+use Rattle.mat_sets.proofs.Common.{lt-ltb, ne_eqb, or_from, or_right, IsRising, RisesFrom, intersection, is_member, minus, rising_insert, union, with_one, without_one}
 use Rattle.std.specs.List.{filter}
-use Rattle.mat_sets.specs.Sets.{IsRising, RisesFrom, intersection, is_member, minus, rising_insert, union, with_one, without_one}
 use Rattle.mat_sets.proofs.Truths.{or_assoc, or_none, or_swap}
 
 -- ---- order

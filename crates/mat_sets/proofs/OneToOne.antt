@@ -1,8 +1,5 @@
 -- How many items a set has, by a function on them: one to one into a set, or onto one.
-use Rattle.std.proofs.Common.{◌≡◌, ℕ, ◌≤◌, true, eqb, List, [], ◌∷◌, length, map, refl, sym, ap, ◌∙◌, arith}
-use Rattle.std.proofs.lemmas.Bool.{eqb-true, false≢true}
-use Rattle.std.proofs.lemmas.List.{length-map}
-use Rattle.mat_sets.specs.Sets.{is_member, IsRising, IsSubset, union}
+use Rattle.mat_sets.proofs.Common.{◌≡◌, ℕ, ◌≤◌, true, eqb, List, [], ◌∷◌, length, map, refl, sym, ap, ◌∙◌, arith, eqb-true, false≢true, length-map, is_member, IsRising, IsSubset, union}
 use Rattle.mat_sets.proofs.DistinctLists.{length-items}
 use Rattle.mat_sets.proofs.Ground.{AreDistinct-rising, length-distinct_subset}
 use Rattle.mat_sets.proofs.MappedLists.{AreDistinct-map, is_member-map, mapped_member}

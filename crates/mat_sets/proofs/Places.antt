@@ -1,16 +1,14 @@
 -- What the code of a set does with places: a binary search, an insertion, a removal, a test of the order, and one walk
 -- along two sets.
-use Rattle.std.proofs.Common.{Err, List, Ok, Result, [], ap, append-nil, arith, eqb, false, get_or, inl, inr, length, not, refl, suc, sym, take, true, zero, ℕ, ◌++◌, ◌+◌, ◌-◌, ◌<◌, ◌∙◌, ◌∷◌, ◌≡◌, ◌≤◌}
+use Rattle.mat_sets.proofs.Common.{Err, List, Ok, Result, [], ap, append-nil, arith, eqb, false, get_or, inl, inr, length, not, refl, suc, sym, take, true, zero, ℕ, ◌++◌, ◌+◌, ◌-◌, ◌<◌, ◌∙◌, ◌∷◌, ◌≡◌, ◌≤◌, cases_eq, cases_lt, eq-eqb, le-ltb, lt-ltb, ne_eqb, filter_more, IsRising, RisesFrom}
+use Rattle.mat_sets.proofs.Common.{intersection, is_member, minus, rising_insert, with_one, without_one}
 use Rattle.std.proofs.Math.Numerals.{add-one}
-use Rattle.std.proofs.lemmas.Bool.{cases_eq, cases_lt, eq-eqb, le-ltb, lt-ltb, ne_eqb}
-use Rattle.std.proofs.lemmas.List.Elements.{filter_more}
 use Rattle.std.proofs.lemmas.List.Sorted.{searched}
 use Rattle.std.specs.List.{filter, insert, remove}
 use Rattle.std.specs.List.Sorted.{IsBinarySearchResult}
 use Rattle.std.specs.Ordering.{nat_cmp}
 use Rattle.std.specs.Result.{MatchResult, is_ok}
 use Rattle.mat_sets.specs.Places.{IsGap, IsPlace}
-use Rattle.mat_sets.specs.Sets.{IsRising, RisesFrom, intersection, is_member, minus, rising_insert, with_one, without_one}
 use Rattle.mat_sets.proofs.Members.{RisesFrom-at, RisesFrom-index, is_member-get_or, is_member-nowhere, minus-none, with_one-member, without_one-missing}
 
 insert-rising_insert : (xs : List ℕ) (i x : ℕ) → i ≤ length xs → ((k : ℕ) → k < i → get_or xs k 0 < x)

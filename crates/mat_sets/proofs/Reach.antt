@@ -1,8 +1,5 @@
 -- What walks from the starts reach (Schrijver, chapter 6).
-use Rattle.std.proofs.Common.{Bool, List, arith, eqb, false, get_or, inl, inr, length, subst, suc, sym, true, zero, ℕ, ◌<◌, ◌≡◌, ◌≢◌, ◌⊎◌}
-use Rattle.std.proofs.lemmas.Bool.{both_ways, eqb-true, false≢true}
-use Rattle.mat_sets.specs.Sets.{IsSubset, is_member}
-use Rattle.mat_sets.specs.Walks.{IsChordless, IsReachedSet, IsShortestWalk, IsWalk}
+use Rattle.mat_sets.proofs.Common.{Bool, List, arith, eqb, false, get_or, inl, inr, length, subst, suc, sym, true, zero, ℕ, ◌<◌, ◌≡◌, ◌≢◌, ◌⊎◌, both_ways, eqb-true, false≢true, IsSubset, is_member, IsChordless, IsReachedSet, IsShortestWalk, IsWalk}
 use Rattle.mat_sets.proofs.Levels.{chordless_by, outcome_of, shortest_by}
 use Rattle.mat_sets.proofs.Subsets.{subsets_equal}
 

@@ -1,12 +1,7 @@
 -- The loops of a round of the search for a shortest walk: the arcs of one vertex, the vertices found last, and the trace back
 -- along the vertices before. Each loop keeps what the whole does, for the numbers or vertices that it has passed.
-use Rattle.std.proofs.Common.{Bool, List, [], ap, arith, cond, eqb, false, get_or, inl, inr, length, ltb, not, refl, set, subst, sym, take, true, ℕ, ◌&&◌, ◌++◌, ◌+◌, ◌<◌, ◌||◌, ◌∙◌, ◌∷◌, ◌≡◌, ◌≤◌, ◌⊎◌}
-use Rattle.std.proofs.lemmas.Bool.{and_right, and_parts, both_ways, cases_Bool, cases_eq, eq-eqb, eqb-true, ne_eqb, or_cases, or_left, or_right}
-use Rattle.std.proofs.lemmas.Bool.Decides.{nat_tests}
-use Rattle.std.proofs.lemmas.List.{get_or-set_other, get_or-set_same, length-set}
-use Rattle.mat_sets.specs.Rounds.{AreTaken, IsRound, is_next}
-use Rattle.mat_sets.specs.Search.{IsFirstFrom, those_below}
-use Rattle.mat_sets.specs.Sets.{all_below, is_member, with_one, without_one}
+use Rattle.mat_sets.proofs.Common.{Bool, List, [], ap, arith, cond, eqb, false, get_or, inl, inr, length, ltb, not, refl, set, subst, sym, take, true, ℕ, ◌&&◌, ◌++◌, ◌+◌, ◌<◌, ◌||◌, ◌∙◌, ◌∷◌, ◌≡◌, ◌≤◌, ◌⊎◌, and_right, and_parts, both_ways, cases_Bool, cases_eq, eq-eqb, eqb-true, ne_eqb, or_cases}
+use Rattle.mat_sets.proofs.Common.{or_left, or_right, nat_tests, get_or-set_other, get_or-set_same, length-set, AreTaken, IsRound, is_next, IsFirstFrom, those_below, all_below, is_member, with_one, without_one}
 use Rattle.mat_sets.proofs.ListParts.{is_member-push}
 use Rattle.mat_sets.proofs.Members.{IsRising-with_one, is_member-with_one, is_member-without_one, same_members}
 use Rattle.mat_sets.proofs.Search.{IsSet-those_below, is_member-those_below}

@@ -1,11 +1,7 @@
 -- Numbers are put into the rows at several places of a list, or taken out of each row, one place after the other: it is done to the rows
 -- at the first places.
-use Rattle.std.proofs.Common.{◌≡◌, ℕ, ◌+◌, ◌<◌, ◌≤◌, Bool, true, false, not, ◌&&◌, ◌||◌, eqb, ltb, List, [], length, get_or, set, take}
-use Rattle.std.proofs.Common.{inl, inr, refl, sym, ap, ◌∙◌, arith, get_or-set_other, get_or-set_same, length-set}
-use Rattle.std.proofs.lemmas.Bool.{cases_eq, cases_lt, eq-eqb, le-ltb, lt-ltb, ne_eqb}
-use Rattle.std.proofs.lemmas.List.{get_or_past}
-use Rattle.mat_sets.specs.Rows.{row_at, AreEmptied, AreRemoved, IsEntered}
-use Rattle.mat_sets.specs.Sets.{is_member, with_one}
+use Rattle.mat_sets.proofs.Common.{◌≡◌, ℕ, ◌+◌, ◌<◌, ◌≤◌, Bool, true, false, not, ◌&&◌, ◌||◌, eqb, ltb, List, [], length, get_or, set, take, inl, inr, refl, sym, ap, ◌∙◌, arith, get_or-set_other, get_or-set_same, length-set, cases_eq, cases_lt, eq-eqb, le-ltb, lt-ltb, ne_eqb, get_or_past, row_at}
+use Rattle.mat_sets.proofs.Common.{AreEmptied, AreRemoved, IsEntered, is_member, with_one}
 use Rattle.mat_sets.proofs.Members.{is_member-with_one}
 use Rattle.mat_sets.proofs.Steps.{is_member-take_more}
 use Rattle.mat_sets.proofs.Truths.{and_all, ltb-other, or_commute}

@@ -1,11 +1,8 @@
 -- Tests that look through finitely many numbers, lists or subsets: where the test holds there is one that passes, and
 -- where it fails none does. The set of the numbers below n that pass.
-use Rattle.std.proofs.Common.{Bool, List, None, Option, Some, [], ap, arith, eqb, false, inl, inr, length, ltb, refl, subst, suc, sym, true, zero, ℕ, ◌&&◌, ◌+◌, ◌||◌, ◌<◌, ◌∙◌, ◌∷◌, ◌≡◌, ◌≤◌}
+use Rattle.mat_sets.proofs.Common.{Bool, List, None, Option, Some, [], ap, arith, eqb, false, inl, inr, length, ltb, refl, subst, suc, sym, true, zero, ℕ, ◌&&◌, ◌+◌, ◌||◌, ◌<◌, ◌∙◌, ◌∷◌, ◌≡◌, ◌≤◌, and_from, and_parts, and_right, both_ways, cases_eq, cases_lt, false_from_ne_true, false≢true, le-ltb}
+use Rattle.mat_sets.proofs.Common.{lt-ltb, ltb-true, ne_eqb, or_cases, or_left, or_right, nat_tests, IsNextFrom, some_below, some_list, some_subset, those_below, AllBelow, IsRising, IsSet, IsSubset, RisesFrom, all_below, is_member, with_one}
 use Rattle.std.proofs.Math.Numerals.{add-one}
-use Rattle.std.proofs.lemmas.Bool.{and_from, and_parts, and_right, both_ways, cases_eq, cases_lt, false_from_ne_true, false≢true, le-ltb, lt-ltb, ltb-true, ne_eqb, or_cases, or_left, or_right}
-use Rattle.std.proofs.lemmas.Bool.Decides.{nat_tests}
-use Rattle.mat_sets.specs.Search.{IsNextFrom, some_below, some_list, some_subset, those_below}
-use Rattle.mat_sets.specs.Sets.{AllBelow, IsRising, IsSet, IsSubset, RisesFrom, all_below, is_member, with_one}
 use Rattle.mat_sets.proofs.Cardinalities.{length-with_one}
 use Rattle.mat_sets.proofs.Ground.{IsRising-all_below, IsSet-from, IsSubset-all_below, is_member-all_below, length-all_below}
 use Rattle.mat_sets.proofs.Members.{IsRising-with_one, RisesFrom-filter, RisesFrom-weaken, is_member-filter, is_member-head, member_from, same_members}

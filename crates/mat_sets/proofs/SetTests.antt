@@ -1,7 +1,5 @@
 -- The test of a set holds exactly of the sets, and the test of different items exactly of lists without repetition.
-use Rattle.std.proofs.Common.{◌≡◌, ℕ, ◌<◌, suc, true, not, ◌&&◌, leb, ltb, List, [], ◌∷◌, refl}
-use Rattle.std.proofs.lemmas.Bool.{and_parts, not-true, and_from, leb-true, ltb-true, le-leb, lt-ltb}
-use Rattle.mat_sets.specs.Sets.{is_member, RisesFrom, IsRising, AllBelow, AreDistinct, IsSet, with_one}
+use Rattle.mat_sets.proofs.Common.{◌≡◌, ℕ, ◌<◌, suc, true, not, ◌&&◌, leb, ltb, List, [], ◌∷◌, refl, and_parts, not-true, and_from, leb-true, ltb-true, le-leb, lt-ltb, is_member, RisesFrom, IsRising, AllBelow, AreDistinct, IsSet, with_one}
 use Rattle.mat_sets.specs.SetTests.{are_distinct, rises_within, is_set}
 use Rattle.mat_sets.proofs.Ground.{IsSet-with_one}
 

@@ -1,12 +1,9 @@
 -- Steps of loops over the members of a set or the sets of a family, for `using(..)`, and what a loop over a lent slice leaves.
-use Rattle.std.proofs.Common.{Bool, List, [], ap, arith, cond, drop, drop-cons, eqb, false, get_or, length, length-append, refl, set, suc, sym, take, true, zero, ℕ, ◌++◌, ◌+◌, ◌<◌, ◌||◌, ◌∙◌, ◌∷◌, ◌≡◌, ◌≤◌}
+use Rattle.mat_sets.proofs.Common.{Bool, List, [], ap, arith, cond, drop, drop-cons, eqb, false, get_or, length, length-append, refl, set, suc, sym, take, true, zero, ℕ, ◌++◌, ◌+◌, ◌<◌, ◌||◌, ◌∙◌, ◌∷◌, ◌≡◌, ◌≤◌, both_ways, eqb-false, ne_eqb, or_from, or_parts, filter_more, AllRising, family_union}
+use Rattle.mat_sets.proofs.Common.{indicator, multiplicity, AllBelow, AreDistinct, IsRising, IsSubset, RisesFrom, intersection, is_member, union, with_one}
 use Rattle.std.proofs.Math.Numerals.{add-one}
 use Rattle.std.proofs.Math.Seq.{take-append_seam}
-use Rattle.std.proofs.lemmas.Bool.{both_ways, eqb-false, ne_eqb, or_from, or_parts}
-use Rattle.std.proofs.lemmas.List.Elements.{filter_more}
 use Rattle.std.specs.List.{filter}
-use Rattle.mat_sets.specs.Families.{AllRising, family_union, indicator, multiplicity}
-use Rattle.mat_sets.specs.Sets.{AllBelow, AreDistinct, IsRising, IsSubset, RisesFrom, intersection, is_member, union, with_one}
 use Rattle.mat_sets.proofs.Members.{IsRising-nil, IsRising-union, IsRising-with_one, RisesFrom-at, intersection-none, is_member-get_or, minus-none, same_members, set_members, is_member-union}
 use Rattle.mat_sets.proofs.Families.{IsRising-family_union}
 use Rattle.mat_sets.proofs.Sums.{AllBelow-at}

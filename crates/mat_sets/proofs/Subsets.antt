@@ -1,7 +1,5 @@
 -- Subsets, and how their sizes compare.
-use Rattle.std.proofs.Common.{Bool, List, [], ap, arith, false, inl, inr, length, not, refl, true, ℕ, ◌<◌, ◌∷◌, ◌≡◌, ◌≤◌, ◌⊎◌}
-use Rattle.std.proofs.lemmas.Bool.{both_ways, cases_Bool}
-use Rattle.mat_sets.specs.Sets.{IsRising, IsSubset, intersection, is_member, minus, union, with_one, without_one}
+use Rattle.mat_sets.proofs.Common.{Bool, List, [], ap, arith, false, inl, inr, length, not, refl, true, ℕ, ◌<◌, ◌∷◌, ◌≡◌, ◌≤◌, ◌⊎◌, both_ways, cases_Bool, IsRising, IsSubset, intersection, is_member, minus, union, with_one, without_one}
 use Rattle.mat_sets.proofs.Cardinalities.{length-minus-intersection, length-with_one}
 use Rattle.mat_sets.proofs.Members.{IsRising-intersection, IsRising-union, IsRising-with_one, is_member-head, same_members, set_members}
 

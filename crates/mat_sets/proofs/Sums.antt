@@ -1,12 +1,8 @@
 -- Sums over rising lists. A sum over a set is a sum over the numbers below a bound, each as often as it stands in the
 -- set; so two families in which each number stands equally often have one sum.
-use Rattle.std.proofs.Common.{Bool, List, [], ap, arith, cond, eqb, false, get_or, inl, inr, length, max, pos, refl, suc, suc-add, sym, take, true, zero, zero-add, ℕ, ℤ, ◌+ℤ◌, ◌+◌, ◌<◌, ◌∙◌, ◌∷◌, ◌≡◌, ◌≤◌}
+use Rattle.mat_sets.proofs.Common.{Bool, List, [], ap, arith, cond, eqb, false, get_or, inl, inr, length, max, pos, refl, suc, suc-add, sym, take, true, zero, zero-add, ℕ, ℤ, ◌+ℤ◌, ◌+◌, ◌<◌, ◌∙◌, ◌∷◌, ◌≡◌, ◌≤◌, cases_eq, eq-eqb, ne_eqb, ints, AllRising, family_sum, indicator, multiplicity, AllBelow}
+use Rattle.mat_sets.proofs.Common.{IsRising, RisesFrom, is_member, sum_of}
 use Rattle.std.proofs.Math.Numerals.{add-one}
-use Rattle.std.proofs.lemmas.Bool.{cases_eq, eq-eqb, ne_eqb}
-use Rattle.std.proofs.lemmas.Int.{ints}
-use Rattle.mat_sets.specs.Families.{AllRising, family_sum, indicator, multiplicity}
-use Rattle.mat_sets.specs.Sets.{AllBelow, IsRising, RisesFrom, is_member}
-use Rattle.mat_sets.specs.Sums.{sum_of}
 use Rattle.mat_sets.proofs.Members.{missing_below}
 
 -- z, m times

@@ -1,5 +1,5 @@
 -- The trace back along the vertices before, from its end on.
-use Rattle.std.proofs.Common.{List, get_or, length, suc, ℕ, ◌<◌, ◌≡◌, ◌≤◌}
+use Rattle.mat_sets.proofs.Common.{List, get_or, length, suc, ℕ, ◌<◌, ◌≡◌, ◌≤◌}
 
 -- the places from `at` on are traced
 pub record IsTraceFrom (before : List ℕ) (arcs last at : ℕ) (vertices : List ℕ) : Type 0 where

@@ -1,6 +1,5 @@
 -- Equations between tests: what holds of `and`, `or` and the equality and order of numbers for every value.
-use Rattle.std.proofs.Common.{◌≡◌, ℕ, ◌+◌, Bool, true, false, not, ◌&&◌, ◌||◌, eqb, ltb, arith, refl, sym, ap}
-use Rattle.std.proofs.lemmas.Bool.{and_right, eq-eqb, eqb-true, false≢true}
+use Rattle.mat_sets.proofs.Common.{◌≡◌, ℕ, ◌+◌, Bool, true, false, not, ◌&&◌, ◌||◌, eqb, ltb, arith, refl, sym, ap, and_right, eq-eqb, eqb-true, false≢true}
 
 pub or_none : (a : Bool) → (a || false) ≡ a
 or_none true = refl

@@ -1,11 +1,6 @@
 -- The union of two sets by one walk along both. What has been put together, followed by the union of what is to come, is the union: the
 -- lower one of the two next items comes next, and where they are equal they come once.
-use Rattle.std.proofs.Common.{◌≡◌, ℕ, suc, zero, ◌+◌, ◌-◌, ◌<◌, ◌≤◌, List, [], ◌∷◌, ◌++◌, length, get_or, take}
-use Rattle.std.proofs.Common.{drop, refl, sym, subst, ap, ◌∙◌}
-use Rattle.std.proofs.Common.{append-nil, append_assoc, arith, length-drop, take_all}
-use Rattle.std.proofs.lemmas.Bool.{eq-eqb, le-ltb, lt-ltb}
-use Rattle.std.proofs.lemmas.List.{drop_all, drop_more}
-use Rattle.mat_sets.specs.Sets.{IsRising, RisesFrom, rising_insert, union}
+use Rattle.mat_sets.proofs.Common.{◌≡◌, ℕ, suc, zero, ◌+◌, ◌-◌, ◌<◌, ◌≤◌, List, [], ◌∷◌, ◌++◌, length, get_or, take, drop, refl, sym, subst, ap, ◌∙◌, append-nil, append_assoc, arith, length-drop, take_all, eq-eqb, le-ltb, lt-ltb, drop_all, drop_more, IsRising, RisesFrom, rising_insert, union}
 use Rattle.mat_sets.proofs.Equalities.{union-commute}
 use Rattle.mat_sets.proofs.Members.{RisesFrom-rising_insert, RisesFrom-weaken}
 use Rattle.mat_sets.proofs.Steps.{union-none}

@@ -1,7 +1,5 @@
 -- The values of the numbers below a bound that pass a test, put into a set one number after the other.
-use Rattle.std.proofs.Common.{◌≡◌, ℕ, ◌+◌, Bool, true, false, ◌&&◌, ◌||◌, eqb, List, [], sym, ap, ◌∙◌}
-use Rattle.mat_sets.specs.Search.{some_below}
-use Rattle.mat_sets.specs.Sets.{is_member, with_one}
+use Rattle.mat_sets.proofs.Common.{◌≡◌, ℕ, ◌+◌, Bool, true, false, ◌&&◌, ◌||◌, eqb, List, [], sym, ap, ◌∙◌, some_below, is_member, with_one}
 use Rattle.mat_sets.proofs.Members.{is_member-with_one}
 use Rattle.mat_sets.proofs.Search.{some_below-more, some_below-zero}
 

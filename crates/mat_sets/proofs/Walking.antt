@@ -1,8 +1,6 @@
 -- Walks along arcs: joined end to end, and within a set of arcs (Schrijver, chapter 3).
-use Rattle.std.proofs.Common.{List, [], inl, inr, refl, subst, sym, true, ℕ, ◌++◌, ◌∷◌, ◌≡◌, ◌∙◌, eqb}
-use Rattle.std.proofs.lemmas.Bool.{or_cases, false≢true, eqb-true}
+use Rattle.mat_sets.proofs.Common.{List, [], inl, inr, refl, subst, sym, true, ℕ, ◌++◌, ◌∷◌, ◌≡◌, ◌∙◌, eqb, or_cases, false≢true, eqb-true, IsSubset, is_member}
 use Rattle.mat_sets.specs.Graphs.{DirectedWalk, Reaches}
-use Rattle.mat_sets.specs.Sets.{IsSubset, is_member}
 use Rattle.mat_sets.proofs.Members.{is_member-append}
 use Rattle.mat_sets.proofs.Subsets.{IsSubset-trans}
 

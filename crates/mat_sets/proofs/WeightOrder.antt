@@ -1,12 +1,6 @@
 -- Weights as an ordered group: what `omega` does with their components, and where two of them are one.
 use borrow.Author.Differences.{up, down, same_in}
-use Rattle.std.proofs.Common.{◌≡◌, ◌+◌, ◌⊎◌, ◌<ℤ◌, inl, inr, true, false, List, length, ℕ, arith, ap}
-use Rattle.std.proofs.lemmas.Bool.{cases_lt}
-use Rattle.std.proofs.lemmas.Int.{ints}
-use Rattle.std.proofs.lemmas.List.{get_or_past}
-use Rattle.std.proofs.lemmas.List.Elements.{All-get_or}
-use Rattle.mat_sets.specs.declared.weight.Weight.{Weight}
-use Rattle.mat_sets.specs.Weights.{zero_weight, ◌≺◌, ◌≼◌, is_below, is_same, weight_at, IsWeightWithin, AreWeightsWithin}
+use Rattle.mat_sets.proofs.Common.{◌≡◌, ◌+◌, ◌⊎◌, ◌<ℤ◌, inl, inr, true, false, List, length, ℕ, arith, ap, cases_lt, ints, get_or_past, All-get_or, Weight, zero_weight, ◌≺◌, ◌≼◌, is_below, is_same, weight_at, IsWeightWithin, AreWeightsWithin}
 
 -- ---- the components of equal weights
 

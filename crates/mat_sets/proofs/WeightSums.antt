@@ -1,9 +1,5 @@
 -- Sums of weights over the sets made of others: each law holds of the mains and of the ties.
-use Rattle.std.proofs.Common.{List, true, false, arith, length, ℕ, ◌+◌, ◌<◌, ◌≡◌, get_or, take}
-use Rattle.std.proofs.lemmas.Int.{ints}
-use Rattle.mat_sets.specs.Sets.{IsRising, is_member, with_one, without_one}
-use Rattle.mat_sets.specs.declared.weight.Weight.{Weight}
-use Rattle.mat_sets.specs.Weights.{◌⊕◌, weight_sum}
+use Rattle.mat_sets.proofs.Common.{List, true, false, arith, length, ℕ, ◌+◌, ◌<◌, ◌≡◌, get_or, take, ints, IsRising, is_member, with_one, without_one, Weight, ◌⊕◌, weight_sum}
 use Rattle.mat_sets.proofs.Cardinalities.{sum_of-with_one, sum_of-without_one, sum_of-exchange_one, sum_of-plus, sum_of-same}
 use Rattle.mat_sets.proofs.Sums.{sum_of-more}
 use Rattle.mat_sets.proofs.WeightOrder.{pairs, parts}

@@ -1,12 +1,8 @@
 -- One set of bits lies inside another where no word has a bit that the other's word at its place has not: a word of which something is
 -- left has a number that stands in the first set alone.
-use Rattle.std.proofs.Common.{◌≡◌, ℕ, ◌+◌, ◌-◌, ◌*◌, ◌/◌, ◌%◌, ◌^◌, ◌<◌, ◌≤◌, true, false, eqb, min, List, length, get_or, bit_and, w64, inl, inr, ap, sym, ◌∙◌, arith}
+use Rattle.mat_sets.proofs.Common.{◌≡◌, ℕ, ◌+◌, ◌-◌, ◌*◌, ◌/◌, ◌%◌, ◌^◌, ◌<◌, ◌≤◌, true, false, eqb, min, List, length, get_or, bit_and, w64, inl, inr, ap, sym, ◌∙◌, arith, both_ways, cases_lt, eq-eqb, eqb-true, ne_eqb, and_le_r, bits_of, has_bit, is_member, IsSubset}
 use Rattle.std.specs.Int.{bit_at, bit_not, trailing_zeros}
-use Rattle.std.proofs.lemmas.Bool.{both_ways, cases_lt, eq-eqb, eqb-true, ne_eqb}
-use Rattle.std.proofs.lemmas.Nat.{and_le_r}
 use Rattle.std.proofs.lemmas.Nat.Bits.{bit_at-lt, bit_at-trailing_zeros, bit_at-zero, bit_at_and, bit_at_not}
-use Rattle.mat_sets.specs.Bits.{bits_of, has_bit}
-use Rattle.mat_sets.specs.Sets.{is_member, IsSubset}
 use Rattle.mat_sets.proofs.Bits.{has_bit_past, is_member-bits_of, IsRising-bits_of}
 
 -- ---- word by word

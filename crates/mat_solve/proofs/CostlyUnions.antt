@@ -1,12 +1,9 @@
 -- The rows of a union, by the list of its matroids.
-use Rattle.std.proofs.Common.{Global, Vec, ◌≡◌, suc, ◌||◌, leb, List, [], ◌∷◌, length, refl, ap, ◌∙◌}
+use Rattle.mat_solve.proofs.Common.{Global, Vec, ◌≡◌, suc, ◌||◌, leb, List, [], ◌∷◌, length, refl, ap, ◌∙◌, tree_count, tree_of, has_costly_rows, some_have_costly_rows}
 use Rattle.std.specs.List.{list_any}
 use Rattle.mat_any.specs.Joined.{trees_in}
-use Rattle.mat_any.specs.Trees.{tree_count}
-use Rattle.mat_any.specs.Views.{tree_of}
 use Rattle.mat_any.specs.declared.any.AnyMatroid.{AnyMatroid, Union}
 use Rattle.mat_any.proofs.JoinedMatroids.{node}
-use Rattle.mat_solve.specs.CostlyRows.{has_costly_rows, some_have_costly_rows}
 
 count_listed : (ms : List AnyMatroid) → tree_count (trees_in ms) ≡ length ms
 count_listed [] = refl

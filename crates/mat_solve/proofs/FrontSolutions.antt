@@ -1,24 +1,8 @@
 -- The ladders of coloured graphs and of tables as answers: those of the graphic matroid with the partition matroid of the colours, and of
 -- the partition matroids of the rows and of the columns. Colours are told exactly where the last rung is no spanning tree.
-use Rattle.std.proofs.Common.{◌≡◌, ℕ, ◌-◌, ◌<◌, ◌≤◌, List, length, Option, Some, None, refl, sym, subst, arith}
-use Rattle.std.specs.Prelude.{map, slice_index, MatchOption}
-use Rattle.std.proofs.lemmas.Bool.{le-ltb, lt-ltb}
-use Rattle.std.proofs.lemmas.List.{length-map}
-use Rattle.mat_sets.specs.Graphs.{ends_of}
-use Rattle.mat_sets.specs.declared.weight.Weight.{Weight}
-use Rattle.mat_laws.specs.Matroids.{IsMatroid}
-use Rattle.mat_graphic.specs.ForestLaws.{graphic_laws}
-use Rattle.mat_graphic.specs.Forests.{is_graphic}
-use Rattle.mat_split.specs.declared.ladder.Rung.{Rung}
-use Rattle.mat_fronts.specs.Assignments.{row_at, IsAssignmentLadder}
-use Rattle.mat_fronts.specs.Once.{is_once}
-use Rattle.mat_fronts.specs.Rainbow.{IsMissingColours, IsRainbowLadder}
+use Rattle.mat_solve.proofs.Common.{◌≡◌, ℕ, ◌-◌, ◌<◌, ◌≤◌, List, length, Option, Some, None, refl, sym, subst, arith, map, slice_index, MatchOption, le-ltb, lt-ltb, length-map, ends_of, Weight, IsMatroid, graphic_laws, is_graphic, Rung, row_at, IsAssignmentLadder, is_once, IsMissingColours}
+use Rattle.mat_solve.proofs.Common.{IsRainbowLadder, IsValid, coloured, table, rainbow, assign, last_rung, is_short_of_tree, IsRangedOption, IsSolution, priced_rung, HaveFewElements}
 use Rattle.mat_fronts.proofs.OnceEach.{once_laws}
-use Rattle.mat_problem.specs.Validity.{IsValid}
-use Rattle.mat_problem.specs.Instances.{coloured, table}
-use Rattle.mat_cert.specs.Certificates.{rainbow, assign, last_rung, is_short_of_tree, IsRangedOption}
-use Rattle.mat_solve.specs.Answers.{IsSolution}
-use Rattle.mat_solve.specs.PricedRungs.{priced_rung, HaveFewElements}
 use Rattle.mat_solve.proofs.PricedLadder.{few_elements, priced_ranged, priced_right, priced_bounded}
 
 -- ---- coloured graphs

@@ -1,24 +1,9 @@
 -- Spanning trees and partitions of the vertices as answers: trees are sets of edges, and classes are sets of vertices, of which there are no
 -- more than vertices, since each has one of its own.
-use Rattle.std.proofs.Common.{◌≡◌, ℕ, zero, suc, ◌-◌, ◌*◌, ◌<◌, ◌≤◌, true, List, [], length, refl, inl, inr, ◌∙◌, arith}
-use Rattle.std.specs.Prelude.{All}
-use Rattle.std.proofs.lemmas.Bool.{cases_lt, lt-ltb}
-use Rattle.std.proofs.lemmas.List.{get_or_default}
-use Rattle.mat_sets.specs.Limits.{most_trees}
-use Rattle.mat_sets.specs.Families.{AllRising, multiplicity}
-use Rattle.mat_sets.specs.Graphs.{ends_of}
-use Rattle.mat_sets.specs.Sets.{all_below, is_member, IsSet}
-use Rattle.mat_sets.proofs.Ground.{IsRising-all_below, IsSet-from, is_member-all_below, length-all_below}
+use Rattle.mat_solve.proofs.Common.{◌≡◌, ℕ, zero, suc, ◌-◌, ◌*◌, ◌<◌, ◌≤◌, true, List, [], length, refl, inl, inr, ◌∙◌, arith, All, cases_lt, lt-ltb, get_or_default, most_trees, AllRising, multiplicity, ends_of, all_below, is_member, IsSet, IsRising-all_below, IsSet-from, is_member-all_below}
+use Rattle.mat_solve.proofs.Common.{length-all_below, length-meeting, multiplicity-nowhere, member_from_some, graphic_laws, part_at, IsValid, graph, trees, trees_none, IsSolution}
 use Rattle.mat_sets.proofs.Steps.{AllRising-at}
-use Rattle.mat_sets.proofs.Families.{length-meeting, multiplicity-nowhere}
-use Rattle.mat_sets.proofs.Members.{member_from_some}
-use Rattle.mat_graphic.specs.ForestLaws.{graphic_laws}
-use Rattle.mat_union.specs.Unions.{part_at}
 use Rattle.mat_packing.specs.Trees.{AreTrees, IsRightPartition}
-use Rattle.mat_problem.specs.Validity.{IsValid}
-use Rattle.mat_problem.specs.Instances.{graph}
-use Rattle.mat_cert.specs.Certificates.{trees, trees_none}
-use Rattle.mat_solve.specs.Answers.{IsSolution}
 
 -- there are classes where edges between them are needed
 some_class : (k classes crossing : ℕ) → crossing < k * (classes - 1) → 1 ≤ classes

@@ -1,3 +1,4 @@
+pub mod Common
 pub mod SetWeights
 pub mod PricedLadder
 pub mod PlainLadder

@@ -1,30 +1,10 @@
 -- Packings and coverings of one matroid as answers. There are no more bases than elements, since they share none and each has some; and no
 -- more sets cover the elements than there are, since each element alone is independent.
-use Rattle.std.proofs.Common.{◌≡◌, ℕ, ◌-◌, ◌<◌, ◌≤◌, true, List, [], ◌∷◌, length, Option, Some, None, refl, sym, subst, arith}
-use Rattle.std.specs.Prelude.{All, MatchOption, nat_lt}
-use Rattle.std.proofs.lemmas.Bool.{le-ltb, lt-ltb}
-use Rattle.std.proofs.lemmas.List.{get_or_default}
-use Rattle.std.proofs.lemmas.Nat.{mul-le}
-use Rattle.mat_sets.specs.Families.{family_union}
-use Rattle.mat_sets.specs.Sets.{all_below, is_member, IsSet, IsSubset}
-use Rattle.mat_sets.specs.declared.weight.Weight.{Weight}
-use Rattle.mat_sets.proofs.Cardinalities.{length-minus-intersection}
-use Rattle.mat_sets.proofs.Ground.{IsSet-length, below_member}
-use Rattle.mat_sets.proofs.Families.{IsSet-family_union}
-use Rattle.mat_sets.proofs.Members.{member_from_some, only_member}
-use Rattle.mat_laws.specs.Matroids.{IsMatroid, IsLoop}
+use Rattle.mat_solve.proofs.Common.{◌≡◌, ℕ, ◌-◌, ◌<◌, ◌≤◌, true, List, [], ◌∷◌, length, Option, Some, None, refl, sym, subst, arith, All, MatchOption, nat_lt, le-ltb, lt-ltb, get_or_default, mul-le, family_union, all_below, is_member, IsSet, IsSubset, Weight, length-minus-intersection, IsSet-length}
+use Rattle.mat_solve.proofs.Common.{below_member, IsSet-family_union, member_from_some, only_member, IsMatroid, IsLoop, rank_is, HasNoLoop, Tree, is_independent, IsValid, list, IsSoundInstance, pack_any, pack, cover_never, cover, IsRangedOption, laws_of_one, IsSolution}
 use Rattle.mat_laws.specs.Ranks.{rank}
-use Rattle.mat_laws.proofs.RankLaws.{rank_is}
-use Rattle.mat_packing.specs.Answers.{HasNoLoop}
 use Rattle.mat_packing.specs.Packings.{IsCoverCut, IsRightCovering, IsRightPacking}
 use Rattle.mat_packing.proofs.Copies.{bases_count}
-use Rattle.mat_any.specs.Trees.{Tree, is_independent}
-use Rattle.mat_problem.specs.Validity.{IsValid}
-use Rattle.mat_problem.specs.Instances.{list}
-use Rattle.mat_problem.specs.Soundness.{IsSoundInstance}
-use Rattle.mat_cert.specs.Certificates.{pack_any, pack, cover_never, cover, IsRangedOption}
-use Rattle.mat_check.proofs.RightLadders.{laws_of_one}
-use Rattle.mat_solve.specs.Answers.{IsSolution}
 
 module _ (w : List Weight) (matroid : Tree) (valid : IsValid (list w (matroid ∷ []))) (sound : IsSoundInstance (list w (matroid ∷ []))) where
   laws : IsMatroid (length w) (is_independent matroid)

@@ -1,29 +1,10 @@
 -- The heaviest independent sets of a matroid as an answer: the weight of each set is in range, since it has at most as many elements as
 -- there are; and as many elements as the rank has make a base.
-use Rattle.std.proofs.Common.{◌≡◌, ℕ, ◌+◌, ◌-◌, ◌<◌, ◌≤◌, Bool, List, [], ◌∷◌, length, get_or, Some, refl, sym, ap, ◌∙◌, arith}
-use Rattle.std.specs.Prelude.{map, slice_get}
-use Rattle.std.proofs.lemmas.List.{length-map, get_or_default}
-use Rattle.std.proofs.lemmas.Option.{get_or_from_slice_get, slice_get_within}
-use Rattle.mat_sets.specs.Limits.{most_elements}
-use Rattle.mat_sets.specs.Sets.{all_below}
-use Rattle.mat_sets.specs.Weights.{weight_at}
-use Rattle.mat_sets.specs.declared.weight.Weight.{Weight}
-use Rattle.mat_sets.proofs.Ground.{IsRising-all_below}
-use Rattle.mat_laws.specs.Matroids.{IsMatroid, IsBase}
+use Rattle.mat_solve.proofs.Common.{◌≡◌, ℕ, ◌+◌, ◌-◌, ◌<◌, ◌≤◌, Bool, List, [], ◌∷◌, length, get_or, Some, refl, sym, ap, ◌∙◌, arith, map, slice_get, length-map, get_or_default, get_or_from_slice_get, slice_get_within, most_elements, all_below, weight_at, Weight, IsRising-all_below, IsMatroid}
+use Rattle.mat_solve.proofs.Common.{IsBase, maximal_in, rank-maximal, Tree, is_independent, AreHeaviestEach, IsValid, list, IsSoundInstance, best, last_rung, PlainRung, laws_of_one, IsSolution, plain_rung, AreSmallSets}
 use Rattle.mat_laws.proofs.Maximal.{IsBase-size, IsBase-maximal}
-use Rattle.mat_laws.proofs.RankLaws.{maximal_in, rank-maximal}
-use Rattle.mat_any.specs.Trees.{Tree, is_independent}
-use Rattle.mat_greedy.specs.Greedy.{AreHeaviestEach}
-use Rattle.mat_problem.specs.Validity.{IsValid}
-use Rattle.mat_problem.specs.Instances.{list}
-use Rattle.mat_problem.specs.Soundness.{IsSoundInstance}
-use Rattle.mat_cert.specs.Certificates.{best, last_rung}
-use Rattle.mat_cert.specs.declared.answer.PlainRung.{PlainRung}
-use Rattle.mat_check.proofs.RightLadders.{laws_of_one}
 use Rattle.mat_solve.proofs.PricedLadder.{mapped_at, set_is}
 use Rattle.mat_solve.proofs.SetWeights.{set_in_range}
-use Rattle.mat_solve.specs.Answers.{IsSolution}
-use Rattle.mat_solve.specs.PricedRungs.{plain_rung, AreSmallSets}
 
 -- the set of a plain rung
 set_of : (w : List Weight) (sets : List (List ℕ)) (k : ℕ) (rung : PlainRung) → slice_get (map (plain_rung w) sets) k ≡ Some rung

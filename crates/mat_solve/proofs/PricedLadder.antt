@@ -1,29 +1,9 @@
 -- Ladders of two matroids as answers: the weight of each set is in range, since it has at most as many elements as there are, and so
 -- are the numbers of each split, within the bound for as many elements.
-use Rattle.std.proofs.Common.{◌≡◌, ℕ, zero, suc, ◌+◌, ◌-◌, ◌*◌, ◌^◌, ◌<◌, ◌≤◌, Bool, List, [], ◌∷◌, length, true, get_or, Some, refl, sym, arith}
-use Rattle.std.specs.Prelude.{map, slice_get}
-use Rattle.std.proofs.lemmas.List.{length-map}
-use Rattle.std.proofs.lemmas.Option.{same_Some, slice_get-get_or}
-use Rattle.std.proofs.lemmas.Nat.{mul-le}
-use Rattle.mat_sets.specs.Limits.{most_elements, largest_weight, largest_number}
-use Rattle.mat_sets.specs.Sets.{IsSet}
-use Rattle.mat_sets.specs.Weights.{AreWeightsWithin}
-use Rattle.mat_sets.specs.declared.weight.Weight.{Weight}
-use Rattle.mat_sets.proofs.Ground.{IsSet-length}
-use Rattle.mat_laws.specs.Matroids.{IsMatroid}
-use Rattle.mat_laws.specs.Ladders.{IsCut, split_bound}
-use Rattle.mat_any.specs.Trees.{Tree, is_independent}
-use Rattle.mat_split.specs.declared.ladder.Rung.{Rung}
-use Rattle.mat_split.specs.Ladders.{IsBoundedRung, IsLadder}
-use Rattle.mat_problem.specs.Validity.{IsValid}
-use Rattle.mat_problem.specs.Instances.{pair}
-use Rattle.mat_problem.specs.Soundness.{IsSoundInstance}
-use Rattle.mat_cert.specs.Certificates.{IsRangedPart, IsRangedPricedRung, IsRangedLadder, intersect, last_rung}
-use Rattle.mat_right.specs.Right.{IsRightLadder}
-use Rattle.mat_check.proofs.RightLadders.{laws_on_weights}
+use Rattle.mat_solve.proofs.Common.{◌≡◌, ℕ, zero, suc, ◌+◌, ◌-◌, ◌*◌, ◌^◌, ◌<◌, ◌≤◌, Bool, List, [], ◌∷◌, length, true, get_or, Some, refl, sym, arith, map, slice_get, length-map, same_Some, slice_get-get_or, mul-le, most_elements, largest_weight, largest_number, IsSet, AreWeightsWithin, Weight}
+use Rattle.mat_solve.proofs.Common.{IsSet-length, IsMatroid, IsCut, split_bound, Tree, is_independent, Rung, IsBoundedRung, IsLadder, IsValid, pair, IsSoundInstance, IsRangedPart, IsRangedPricedRung, IsRangedLadder, intersect, last_rung, IsRightLadder, laws_on_weights, IsSolution, HaveBoundedSplits}
+use Rattle.mat_solve.proofs.Common.{priced_rung, HaveFewElements}
 use Rattle.mat_solve.proofs.SetWeights.{set_in_range, weight_within_more}
-use Rattle.mat_solve.specs.Answers.{IsSolution, HaveBoundedSplits}
-use Rattle.mat_solve.specs.PricedRungs.{priced_rung, HaveFewElements}
 
 -- ---- bounds
 

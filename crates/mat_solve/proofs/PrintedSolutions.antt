@@ -1,34 +1,10 @@
 -- The weights of a solution are small: that of a set is the sum of at most 500 weights, and those of a split are within the bound.
-use Rattle.std.proofs.Common.{◌≡◌, ℕ, ◌*◌, ◌^◌, ◌<◌, ◌≤◌, Bool, List, length, get_or, sym, ap, subst, ◌∙◌, arith}
-use Rattle.std.specs.Prelude.{map, slice_index}
+use Rattle.mat_solve.proofs.Common.{◌≡◌, ℕ, ◌*◌, ◌^◌, ◌<◌, ◌≤◌, Bool, List, length, get_or, sym, ap, subst, ◌∙◌, arith, map, slice_index, length-map, get_or-map, slice_get-get_or, largest_weight, most_elements, family_union, ends_of, IsSet, Weight, weight, weight_at, AreWeightsWithin, IsSet-length}
+use Rattle.mat_solve.proofs.Common.{weight_within_at, IsSet-family_union, split_bound, is_graphic, AreFalling, level_at, row_at, column_at, is_once, is_independent, IsValid, Instance, Certificate, best, certificate_text, IsRanged, IsRangedLadder, IsPrinted, IsPrintedRung, IsPrintedWeight, LevelLine}
+use Rattle.mat_solve.proofs.Common.{PlainRung, PricedRung, IsRightPricedRung, IsRightLadder, AreRightRungs, level_of, IsSolution, HaveBoundedSplits}
 use Rattle.std.specs.List.{All}
-use Rattle.std.proofs.lemmas.List.{length-map, get_or-map}
-use Rattle.std.proofs.lemmas.Option.{slice_get-get_or}
-use Rattle.mat_sets.specs.Limits.{largest_weight, most_elements}
-use Rattle.mat_sets.specs.Families.{family_union}
-use Rattle.mat_sets.specs.Graphs.{ends_of}
-use Rattle.mat_sets.specs.Sets.{IsSet}
-use Rattle.mat_sets.specs.declared.weight.Weight.{Weight}
-use Rattle.mat_sets.specs.Weights.{weight, weight_at, AreWeightsWithin}
-use Rattle.mat_sets.proofs.Ground.{IsSet-length}
-use Rattle.mat_sets.proofs.WeightOrder.{weight_within_at}
-use Rattle.mat_sets.proofs.Families.{IsSet-family_union}
-use Rattle.mat_laws.specs.Ladders.{split_bound}
-use Rattle.mat_graphic.specs.Forests.{is_graphic}
-use Rattle.mat_union.specs.RightUnions.{AreFalling, level_at}
-use Rattle.mat_fronts.specs.Assignments.{row_at, column_at}
-use Rattle.mat_fronts.specs.Once.{is_once}
-use Rattle.mat_any.specs.Trees.{is_independent}
-use Rattle.mat_problem.specs.Validity.{IsValid}
-use Rattle.mat_problem.specs.Instances.{Instance}
-use Rattle.mat_cert.specs.Certificates.{Certificate, best, certificate_text, IsRanged, IsRangedLadder, IsPrinted, IsPrintedRung, IsPrintedWeight}
-use Rattle.mat_cert.specs.declared.answer.LevelLine.{LevelLine}
-use Rattle.mat_cert.specs.declared.answer.PlainRung.{PlainRung}
-use Rattle.mat_cert.specs.declared.answer.PricedRung.{PricedRung}
 use Rattle.mat_cert.proofs.PrintedLengths.{length-printed_text}
-use Rattle.mat_right.specs.Right.{IsRightPricedRung, IsRightLadder, AreRightRungs, level_of}
 use Rattle.mat_check.proofs.AnswerForms.{OnEachForm, by_right}
-use Rattle.mat_solve.specs.Answers.{IsSolution, HaveBoundedSplits}
 use Rattle.mat_solve.proofs.PricedLadder.{split_bound-small}
 use Rattle.mat_solve.proofs.SetWeights.{weight_within_more, within_set}
 

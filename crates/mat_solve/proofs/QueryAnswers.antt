@@ -1,9 +1,5 @@
 -- The forms of the answers to a query: what holds of each of these forms holds of every answer to it.
-use Rattle.std.proofs.Common.{◌≡◌, ℕ, List, length}
-use Rattle.mat_sets.specs.declared.weight.Weight.{Weight}
-use Rattle.mat_cert.specs.Certificates.{Certificate, intersect, union_of, trees, trees_none, arbor, unreached, assign}
-use Rattle.mat_cert.specs.declared.answer.LevelLine.{LevelLine}
-use Rattle.mat_cert.specs.declared.answer.PricedRung.{PricedRung}
+use Rattle.mat_solve.proofs.Common.{◌≡◌, ℕ, List, length, Weight, Certificate, intersect, union_of, trees, trees_none, arbor, unreached, assign, LevelLine, PricedRung}
 use Rattle.mat_solve.specs.Queries.{IsAnswerOf}
 use Rattle.mat_solve.specs.declared.query.Query.TheVariants.{Intersect, Union, Trees, Arborescence, Assign}
 

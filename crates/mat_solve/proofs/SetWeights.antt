@@ -1,12 +1,6 @@
 -- The weight of a set is small: both its numbers are sums of at most 500 numbers from -10^12 to 10^12.
-use Rattle.std.proofs.Common.{ℕ, ◌*◌, ◌^◌, ◌≤◌, List, length, arith, ℤ}
-use Rattle.std.proofs.lemmas.Int.{ints}
-use Rattle.mat_sets.specs.Limits.{largest_weight, most_elements, largest_number}
+use Rattle.mat_solve.proofs.Common.{ℕ, ◌*◌, ◌^◌, ◌≤◌, List, length, arith, ℤ, ints, largest_weight, most_elements, largest_number, weight_at, weight, IsWeightWithin, AreWeightsWithin, Weight, sum_of-high, sum_of-low, weight_within_at}
 use Rattle.mat_sets.specs.Sums.{sum_of, IsWithin}
-use Rattle.mat_sets.specs.Weights.{weight_at, weight, IsWeightWithin, AreWeightsWithin}
-use Rattle.mat_sets.specs.declared.weight.Weight.{Weight}
-use Rattle.mat_sets.proofs.Cardinalities.{sum_of-high, sum_of-low}
-use Rattle.mat_sets.proofs.WeightOrder.{weight_within_at}
 
 within_more : (a b : ℕ) (z : ℤ) → a ≤ b → IsWithin a z → IsWithin b z
 within_more a b z le (low, high) = (omega (arith, ints), omega (arith, ints))

@@ -1,18 +1,7 @@
 -- Arborescences and disjoint arborescences as answers: their sets are sets of arcs or of vertices, and so in range.
-use Rattle.std.proofs.Common.{ℕ, ◌≤◌, List, length, refl, arith}
-use Rattle.mat_sets.specs.Limits.{most_elements, most_trees}
-use Rattle.mat_sets.specs.Graphs.{ends_of, IsUnentered}
-use Rattle.mat_sets.specs.Sets.{AllBelow}
-use Rattle.mat_sets.specs.Weights.{weight}
-use Rattle.mat_sets.specs.declared.weight.Weight.{Weight}
-use Rattle.mat_sets.proofs.Ground.{IsSet-length}
-use Rattle.mat_arbor.specs.Arborescences.{IsRightArbor}
+use Rattle.mat_solve.proofs.Common.{ℕ, ◌≤◌, List, length, refl, arith, most_elements, most_trees, ends_of, IsUnentered, AllBelow, weight, Weight, IsSet-length, IsRightArbor, IsValid, rooted, arbor, unreached, disjoint, disjoint_none, IsSolution}
 use Rattle.mat_arbor.specs.declared.arbor.Arbor.TheVariants.{Tree}
 use Rattle.mat_branch.specs.Arborescences.{AreDisjointArborescences, IsSeldomEntered}
-use Rattle.mat_problem.specs.Validity.{IsValid}
-use Rattle.mat_problem.specs.Instances.{rooted}
-use Rattle.mat_cert.specs.Certificates.{arbor, unreached, disjoint, disjoint_none}
-use Rattle.mat_solve.specs.Answers.{IsSolution}
 use Rattle.mat_solve.proofs.PricedLadder.{ranged_part}
 use Rattle.mat_solve.proofs.SetWeights.{set_in_range}
 

@@ -1,34 +1,12 @@
 -- The parts of a union with their levels as an answer. There are no more levels than elements, since each has the weight of an element, and
 -- no two have the same.
-use Rattle.std.proofs.Common.{◌≡◌, ℕ, ◌<◌, ◌≤◌, true, false, List, [], length, get_or, refl, inl, inr, sym, subst, ◌∙◌, arith}
-use Rattle.std.specs.Prelude.{map, All}
-use Rattle.std.proofs.lemmas.Bool.{cases_lt, cases_order, lt-ltb, ltb-true}
-use Rattle.std.proofs.lemmas.Int.{ints}
-use Rattle.std.proofs.lemmas.List.{length-map, get_or-map, get_or_default}
-use Rattle.mat_sets.specs.Limits.{most_elements, largest_weight, largest_number}
-use Rattle.mat_sets.specs.Families.{family_union}
-use Rattle.mat_sets.specs.Sets.{is_member, all_below, AllBelow, IsSet}
-use Rattle.mat_sets.specs.Weights.{◌≺◌, weight, weight_at}
-use Rattle.mat_sets.specs.declared.weight.Weight.{Weight}
-use Rattle.mat_sets.proofs.Ground.{IsRising-all_below, IsSet-length, IsSet-subset, is_member-all_below, length-all_below}
+use Rattle.mat_solve.proofs.Common.{◌≡◌, ℕ, ◌<◌, ◌≤◌, true, false, List, [], length, get_or, refl, inl, inr, sym, subst, ◌∙◌, arith, map, All, cases_lt, cases_order, lt-ltb, ltb-true, ints, length-map, get_or-map, get_or_default, most_elements, largest_weight, largest_number, family_union}
+use Rattle.mat_solve.proofs.Common.{is_member, all_below, AllBelow, IsSet, ◌≺◌, weight, weight_at, Weight, IsRising-all_below, IsSet-length, IsSet-subset, is_member-all_below, length-all_below, weight_within_at, IsSet-family_union, IsMatroid, AreFalling, IsRightUnion, level_at, AreMatroids}
+use Rattle.mat_solve.proofs.Common.{AreParts, Tree, uniform, is_independent, IsValid, list, IsSoundInstance, union_of, IsCertificateWeight, IsRangedLevel, LevelLine, level_of, laws_on_weights, IsSolution}
 use Rattle.mat_sets.proofs.OneToOne.{length-covered}
 use Rattle.mat_sets.proofs.Search.{IsSet-those_below}
-use Rattle.mat_sets.proofs.WeightOrder.{weight_within_at}
-use Rattle.mat_sets.proofs.Families.{IsSet-family_union}
-use Rattle.mat_laws.specs.Matroids.{IsMatroid}
 use Rattle.mat_union.specs.PartListLaws.{part_set}
-use Rattle.mat_union.specs.RightUnions.{AreFalling, IsRightUnion, level_at}
-use Rattle.mat_union.specs.Unions.{AreMatroids, AreParts}
 use Rattle.mat_union.specs.declared.best.Level.{Level}
-use Rattle.mat_any.specs.Trees.{Tree, uniform, is_independent}
-use Rattle.mat_problem.specs.Validity.{IsValid}
-use Rattle.mat_problem.specs.Instances.{list}
-use Rattle.mat_problem.specs.Soundness.{IsSoundInstance}
-use Rattle.mat_cert.specs.Certificates.{union_of, IsCertificateWeight, IsRangedLevel}
-use Rattle.mat_cert.specs.declared.answer.LevelLine.{LevelLine}
-use Rattle.mat_right.specs.Right.{level_of}
-use Rattle.mat_check.proofs.RightLadders.{laws_on_weights}
-use Rattle.mat_solve.specs.Answers.{IsSolution}
 use Rattle.mat_solve.proofs.SetWeights.{set_in_range, weight_within_more}
 
 -- ---- the number of levels

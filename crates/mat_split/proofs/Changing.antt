@@ -1,11 +1,8 @@
 -- The set along a path: after each vertex it is the one that is exchanged along the part of the path so far.
-use Rattle.std.proofs.Common.{◌≡◌, ℕ, ◌+◌, ◌<◌, Bool, true, false, ◌||◌, ◌&&◌, not, eqb, List, [], length, get_or, take, refl, sym, subst, arith}
-use Rattle.std.proofs.lemmas.Bool.{eqb-true, both_ways}
-use Rattle.mat_sets.specs.Sets.{is_member, minus, with_one, without_one, IsRising}
+use Rattle.mat_split.proofs.Common.{◌≡◌, ℕ, ◌+◌, ◌<◌, Bool, true, false, ◌||◌, ◌&&◌, not, eqb, List, [], length, get_or, take, refl, sym, subst, arith, eqb-true, is_member, minus, with_one, without_one, IsRising, exchanged_along, is_member-exchanged_along}
+use Rattle.std.proofs.lemmas.Bool.{both_ways}
 use Rattle.mat_sets.proofs.Members.{same_members, is_member-with_one, is_member-without_one, IsRising-with_one, IsRising-without_one, IsRising-union, IsRising-minus}
 use Rattle.mat_sets.proofs.Steps.{is_member-take_more}
-use Rattle.mat_laws.specs.TightPaths.{exchanged_along}
-use Rattle.mat_exchange.proofs.TightPathSteps.{is_member-exchanged_along}
 
 pub IsRising-exchanged_along : (I path : List ℕ) → IsRising I → IsRising (exchanged_along I path)
 IsRising-exchanged_along I path r = IsRising-union (minus path I) (minus I path) (IsRising-minus I path r)

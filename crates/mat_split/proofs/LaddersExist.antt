@@ -1,26 +1,11 @@
 -- Every pair of matroids has a ladder: from the empty set, under all of the weight and none of it, one set after the other until the
 -- cut. The set of k elements has second weights of at most 2 m (n + 1)^2 k, which is within the bound of a ladder, since k ≤ n.
-use Rattle.std.proofs.Common.{◌≡◌, ℕ, suc, zero, ◌+◌, ◌*◌, ◌^◌, ◌<◌, ◌≤◌, Bool, List, [], ◌∷◌, length, get_or, map, inl, inr, refl, sym, ap, ◌∙◌, subst, arith}
+use Rattle.mat_split.proofs.Common.{◌≡◌, ℕ, suc, zero, ◌+◌, ◌*◌, ◌^◌, ◌<◌, ◌≤◌, Bool, List, [], ◌∷◌, length, get_or, map, inl, inr, refl, sym, ap, ◌∙◌, subst, arith, same_Some, none-some, All-get_or, All-from_get_or, slice_get, Some, largest_weight, counted_from, below_member, IsSet-length}
+use Rattle.mat_split.proofs.Common.{zero_weight, weight_at, IsWeightWithin, AreWeightsWithin, Weight, pairs, IsMatroid, IsHeaviest, IsRung, IsCut, split_bound, IsSplitWithin, IsBoundedRung, IsLadder, Rung, IsSplitAt}
 use Rattle.std.proofs.Math.Nat.{mul-le-mul_left}
 use Rattle.std.proofs.lemmas.Int.{ints}
-use Rattle.std.proofs.lemmas.Option.{same_Some, none-some}
-use Rattle.std.proofs.lemmas.List.Elements.{All-get_or, All-from_get_or}
-use Rattle.std.specs.Prelude.{slice_get, Some}
-use Rattle.mat_sets.specs.Limits.{largest_weight}
-use Rattle.mat_sets.specs.Sets.{counted_from}
 use Rattle.mat_sets.proofs.WeightSums.{weight_sum-same}
-use Rattle.mat_sets.proofs.Ground.{below_member, IsSet-length}
-use Rattle.mat_sets.specs.Weights.{zero_weight, weight_at, IsWeightWithin, AreWeightsWithin}
-use Rattle.mat_sets.specs.declared.weight.Weight.{Weight}
-use Rattle.mat_sets.proofs.WeightOrder.{pairs}
-use Rattle.mat_laws.specs.Matroids.{IsMatroid}
-use Rattle.mat_laws.specs.Heaviest.{IsHeaviest}
-use Rattle.mat_laws.specs.Ladders.{IsRung, IsCut, split_bound}
 use Rattle.mat_laws.proofs.HeaviestSteps.{IsHeaviest-nil}
-use Rattle.mat_exchange.specs.Changes.{IsSplitWithin}
-use Rattle.mat_split.specs.Ladders.{IsBoundedRung, IsLadder}
-use Rattle.mat_split.specs.declared.ladder.Rung.{Rung}
-use Rattle.mat_split.specs.Augmenting.{IsSplitAt}
 use Rattle.mat_split.proofs.NextRungs.{next_or_cut}
 
 -- ---- weights as lists

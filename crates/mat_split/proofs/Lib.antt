@@ -1,3 +1,4 @@
+pub mod Common
 pub mod NextRungs
 pub mod LaddersExist
 pub mod Changing

@@ -1,24 +1,11 @@
 -- From a split set of k elements to one of k + 1, or to the cut. The split grows until a search has no slack; where it then finds a path, the
 -- set is exchanged along it, and otherwise the reached set is the cut.
-use Rattle.std.proofs.Common.{◌≡◌, ℕ, suc, ◌+◌, ◌*◌, ◌^◌, ◌<◌, ◌≤◌, Bool, true, List, length, ◌⊎◌, inl, inr, sym, ◌∙◌, subst, arith}
-use Rattle.std.proofs.lemmas.Nat.{mul-le}
-use Rattle.mat_sets.specs.Limits.{largest_weight}
+use Rattle.mat_split.proofs.Common.{◌≡◌, ℕ, suc, ◌+◌, ◌*◌, ◌^◌, ◌<◌, ◌≤◌, Bool, true, List, length, ◌⊎◌, inl, inr, sym, ◌∙◌, subst, arith, mul-le, largest_weight, IsWeightWithin, Weight, IsMatroid, rows_of, IsCut, exchanges_at, exchanged_along, is_heaviest_addable, is_tight, IsStuckReach, IsSplitAt}
+use Rattle.mat_split.proofs.Common.{cut_without_slack, gains_at_heaviest, heaviest_at_gains, rows_tell_exchanges, IsTableAt-rows_of, exchange_along_tight_path, IsWeightWithin-weaken}
 use Rattle.mat_sets.proofs.Reach.{finite_reach}
-use Rattle.mat_sets.specs.Weights.{IsWeightWithin}
-use Rattle.mat_sets.specs.declared.weight.Weight.{Weight}
-use Rattle.mat_laws.specs.Matroids.{IsMatroid}
-use Rattle.mat_laws.specs.Exchanges.{rows_of}
-use Rattle.mat_laws.specs.Ladders.{IsCut}
-use Rattle.mat_laws.specs.TightPaths.{exchanges_at, exchanged_along, is_heaviest_addable, is_tight, IsStuckReach}
-use Rattle.mat_split.specs.Augmenting.{IsSplitAt}
-use Rattle.mat_exchange.proofs.CutsWithoutSlack.{cut_without_slack}
 use Rattle.mat_exchange.proofs.Growing.{AreExchangesOn}
 use Rattle.mat_exchange.proofs.GrownSplitsExist.{grown_split_exists}
 use Rattle.mat_exchange.proofs.GrowthSteps.{exchanges_on}
-use Rattle.mat_exchange.proofs.HeaviestExchanges.{gains_at_heaviest, heaviest_at_gains}
-use Rattle.mat_exchange.proofs.RowExchanges.{rows_tell_exchanges, IsTableAt-rows_of}
-use Rattle.mat_exchange.proofs.TightPathSteps.{exchange_along_tight_path}
-use Rattle.mat_exchange.proofs.WeightBounds.{IsWeightWithin-weaken}
 
 -- some split set of k elements within the bound
 abbrev pub SomeSplit : ℕ → (List ℕ → Bool) → (List ℕ → Bool) → (ℕ → Weight) → ℕ → ℕ → Type 0

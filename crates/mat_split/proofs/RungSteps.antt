@@ -1,23 +1,10 @@
 -- What the loop over the sizes keeps: the rungs so far, one for each size, are right and within the bound, and the next one is within its
 -- own. As its set is independent, there are at most n rungs before it.
-use Rattle.std.proofs.Common.{◌≡◌, ℕ, suc, zero, ◌+◌, ◌-◌, ◌*◌, ◌^◌, ◌<◌, ◌≤◌, Bool, List, [], ◌∷◌, ◌++◌, length, Some, replicate, refl, sym, ap, ◌∙◌, subst, arith}
+use Rattle.mat_split.proofs.Common.{◌≡◌, ℕ, suc, zero, ◌+◌, ◌-◌, ◌*◌, ◌^◌, ◌<◌, ◌≤◌, Bool, List, [], ◌∷◌, ◌++◌, length, Some, replicate, refl, sym, ap, ◌∙◌, subst, arith, same_Some, none-some, All-get_or, slice_get, largest_weight, IsSet-length, zero_weight, weight_at, IsWeightWithin}
+use Rattle.mat_split.proofs.Common.{AreWeightsWithin, Weight, IsMatroid, IsCut, split_bound, IsSplitWithin, IsSplitRung, weights_of, size_bound, IsBoundedRung, IsLadder, Rung, AreWeightsWithin-from}
 use Rattle.std.proofs.Math.Nat.{mul-le-mul_left}
-use Rattle.std.proofs.lemmas.Option.{same_Some, none-some}
 use Rattle.std.proofs.lemmas.List.{length-replicate}
-use Rattle.std.proofs.lemmas.List.Elements.{All-get_or}
-use Rattle.std.specs.Prelude.{slice_get}
-use Rattle.mat_sets.specs.Limits.{largest_weight}
-use Rattle.mat_sets.proofs.Ground.{IsSet-length}
-use Rattle.mat_sets.specs.Weights.{zero_weight, weight_at, IsWeightWithin, AreWeightsWithin}
-use Rattle.mat_sets.specs.declared.weight.Weight.{Weight}
-use Rattle.mat_laws.specs.Matroids.{IsMatroid}
-use Rattle.mat_laws.specs.Ladders.{IsCut, split_bound}
-use Rattle.mat_exchange.specs.Changes.{IsSplitWithin}
-use Rattle.mat_split.specs.Augmenting.{IsSplitRung, weights_of, size_bound}
-use Rattle.mat_split.specs.Ladders.{IsBoundedRung, IsLadder}
-use Rattle.mat_split.specs.declared.ladder.Rung.{Rung}
 use Rattle.mat_split.proofs.LaddersExist.{parts_within, IsSplitAt-nil}
-use Rattle.mat_exchange.proofs.WeightBounds.{AreWeightsWithin-from}
 use mathlib.Core.Path.{fun_ext}
 
 -- the rungs of the sizes so far, and the next one

@@ -1,32 +1,14 @@
 -- From a rung to the next, by one search that grows. A rung's set gains by no exchange; after the search so it is under the new weights,
 -- which differ little from the old, and a path leads to a larger set, or the reached set is a cut.
-use Rattle.std.proofs.Common.{Vec, Global, ◌≡◌, ℕ, suc, ◌+◌, ◌*◌, ◌^◌, ◌≤◌, Bool, List, length, Option, None, ap, ◌∙◌, subst, arith}
+use Rattle.mat_split.proofs.Common.{Vec, Global, ◌≡◌, ℕ, suc, ◌+◌, ◌*◌, ◌^◌, ◌≤◌, Bool, List, length, Option, None, ap, ◌∙◌, subst, arith, mul-le, most_elements, split_room, IsSet-length, weight_at, AreWeightsWithin, Weight, weight_within_at, IsMatroid, rows_of, IsCut, IsHeaviest, exchanges_at}
+use Rattle.mat_split.proofs.Common.{exchanges_in, exchanged_along, IsSplitWithin, cut_without_slack, gains_in_rows, heaviest_in_rows, rows_tell_exchanges, IsTableAt-rows_of, exchange_along_tight_path, IsWeightWithin-weaken, AreWeightsWithin-from, IsSplitRung, size_bound, weights_of, Rung}
 use Rattle.std.proofs.Math.Nat.{mul-le-mul_left}
-use Rattle.std.proofs.lemmas.Nat.{mul-le}
-use Rattle.mat_sets.specs.Limits.{most_elements, split_room}
-use Rattle.mat_sets.proofs.Ground.{IsSet-length}
-use Rattle.mat_sets.specs.Weights.{weight_at, AreWeightsWithin}
-use Rattle.mat_sets.specs.declared.weight.Weight.{Weight}
-use Rattle.mat_sets.proofs.WeightOrder.{weight_within_at}
 use Rattle.mat_laws.specs.declared.exchange.Exchange.{Exchange}
-use Rattle.mat_laws.specs.Matroids.{IsMatroid}
-use Rattle.mat_laws.specs.Exchanges.{rows_of}
-use Rattle.mat_laws.specs.Ladders.{IsCut}
-use Rattle.mat_laws.specs.Heaviest.{IsHeaviest}
-use Rattle.mat_laws.specs.TightPaths.{exchanges_at, exchanges_in, exchanged_along}
 use Rattle.mat_exchange.specs.declared.found.Found.TheVariants.{Path, Stuck}
 use Rattle.mat_exchange.specs.declared.grown.Grown.{Grown}
-use Rattle.mat_exchange.specs.Changes.{IsSplitWithin}
 use Rattle.mat_exchange.specs.Growing.{NoExchangeGains, IsGrown, HasNoSlack}
 use Rattle.mat_exchange.specs.Searching.{IsFound}
 use Rattle.mat_exchange.specs.Tables.{IsTableAt}
-use Rattle.mat_exchange.proofs.CutsWithoutSlack.{cut_without_slack}
-use Rattle.mat_exchange.proofs.HeaviestExchanges.{gains_in_rows, heaviest_in_rows}
-use Rattle.mat_exchange.proofs.RowExchanges.{rows_tell_exchanges, IsTableAt-rows_of}
-use Rattle.mat_exchange.proofs.TightPathSteps.{exchange_along_tight_path}
-use Rattle.mat_exchange.proofs.WeightBounds.{IsWeightWithin-weaken, AreWeightsWithin-from}
-use Rattle.mat_split.specs.Augmenting.{IsSplitRung, size_bound, weights_of}
-use Rattle.mat_split.specs.declared.ladder.Rung.{Rung}
 
 bound_fits : (n k : ℕ) → n ≤ most_elements → k ≤ n → size_bound n k ≤ split_room
 bound_fits n k hn hk =

@@ -1,3 +1,4 @@
+pub mod Common
 mod SummaryTotals
 mod SummaryRanges
 mod SummaryLines

@@ -1,29 +1,16 @@
 -- One sample has one summary: two right answers to a problem are both best, and what a summary says of an answer is what is best.
-use Rattle.std.proofs.Common.{◌≡◌, ℕ, ◌≤◌, List, [], ◌∷◌, ◌++◌, length, map, codes, pos, refl, sym, ap, subst, ◌∙◌, arith}
-use Rattle.mat_sets.specs.Limits.{most_elements}
-use Rattle.mat_sets.specs.Weights.{weight}
-use Rattle.mat_sets.specs.declared.weight.Weight.{Weight}
-use Rattle.mat_sets.proofs.WeightOrder.{at_most_both}
-use Rattle.mat_words.specs.Lines.{Line, text_of}
-use Rattle.mat_words.specs.Numbers.{numeral}
+use Rattle.mat_summary.proofs.Common.{◌≡◌, ℕ, ◌≤◌, List, [], ◌∷◌, ◌++◌, length, map, codes, pos, refl, sym, ap, subst, ◌∙◌, arith, most_elements, weight, Weight, at_most_both, Line, text_of, numeral, Certificate, intersect, union_of, trees, trees_none, arbor, unreached, assign, PricedRung}
+use Rattle.mat_summary.proofs.Common.{IsRightLadder, IsOptimal, sample_of, SampleKind, IsAnswerOf, IsSummary, kind_word, query_of_kind, summary_words}
 use Rattle.mat_any.specs.Trees.{Tree, is_independent}
 use Rattle.mat_fronts.specs.Assignments.{column_at, row_at}
 use Rattle.mat_fronts.specs.Once.{is_once}
 use Rattle.mat_problem.specs.Validity.{IsValid}
 use Rattle.mat_problem.specs.Instances.{Instance, pair, list, graph, rooted, table}
-use Rattle.mat_cert.specs.Certificates.{Certificate, intersect, union_of, trees, trees_none, arbor, unreached, assign}
 use Rattle.mat_cert.specs.declared.answer.LevelLine.{LevelLine}
-use Rattle.mat_cert.specs.declared.answer.PricedRung.{PricedRung}
-use Rattle.mat_right.specs.Right.{IsRightLadder}
-use Rattle.mat_check.specs.Optimal.{IsOptimal}
 use Rattle.mat_check.proofs.OptimalAnswers.{right_is_optimal}
-use Rattle.mat_gen.specs.Samples.{sample_of}
-use Rattle.mat_gen.specs.declared.kind.SampleKind.{SampleKind}
 use Rattle.mat_gen.specs.declared.kind.SampleKind.TheVariants as kinds
 use Rattle.mat_gen.proofs.Validity.{sample_valid}
 use Rattle.mat_solve.specs.Answers.{IsSolution}
-use Rattle.mat_solve.specs.Queries.{IsAnswerOf}
-use Rattle.mat_summary.specs.Summaries.{IsSummary, kind_word, query_of_kind, summary_words}
 use Rattle.mat_solve.specs.declared.query.Query.TheVariants.{Intersect, Union, Trees, Arborescence, Assign}
 use Rattle.mat_solve.proofs.QueryAnswers.{on_intersect, on_union, on_trees, on_arborescence, on_assign}
 use Rattle.mat_summary.proofs.SameLadders.{one_ladder}

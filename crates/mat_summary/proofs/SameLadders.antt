@@ -1,13 +1,5 @@
 -- Two optimal ladders of the same matroids and weights have as many rungs, and rungs of the same weights. So their words are the same.
-use Rattle.std.proofs.Common.{◌≡◌, ℕ, suc, ◌≤◌, Bool, List, [], ◌∷◌, length, get_or, Some, refl, sym, ◌∙◌, arith}
-use Rattle.std.specs.Prelude.{slice_get}
-use Rattle.std.proofs.lemmas.Option.{slice_get-get_or}
-use Rattle.mat_sets.specs.declared.weight.Weight.{Weight}
-use Rattle.mat_sets.proofs.WeightOrder.{at_most_both}
-use Rattle.mat_right.specs.Right.{IsRightLadder}
-use Rattle.mat_check.specs.Optimal.{IsOptimalLadder}
-use Rattle.mat_summary.specs.Summaries.{ladder_weight, ladder_words, last_weight}
-use Rattle.mat_cert.specs.declared.answer.PricedRung.{PricedRung}
+use Rattle.mat_summary.proofs.Common.{◌≡◌, ℕ, suc, ◌≤◌, Bool, List, [], ◌∷◌, length, get_or, Some, refl, sym, ◌∙◌, arith, slice_get, slice_get-get_or, Weight, at_most_both, IsRightLadder, IsOptimalLadder, ladder_weight, ladder_words, last_weight, PricedRung}
 
 -- rungs at the same place have the same weight
 abbrev HaveSameWeights : List PricedRung → List PricedRung → Type 0

@@ -1,15 +1,10 @@
 -- Two best unions of the same matroids and weights hold as many elements, and weigh the same.
-use Rattle.std.proofs.Common.{◌≡◌, ℕ, Bool, List, length, pos, sym, arith}
-use Rattle.std.proofs.lemmas.Int.{ints}
+use Rattle.mat_summary.proofs.Common.{◌≡◌, ℕ, Bool, List, length, pos, sym, arith, ints, weight, Weight, at_most_both, all_members}
 use Rattle.mat_sets.specs.Families.{AllRising, AreDisjoint, family_union}
-use Rattle.mat_sets.specs.Weights.{weight}
-use Rattle.mat_sets.specs.declared.weight.Weight.{Weight}
 use Rattle.mat_sets.proofs.Families.{family_sum-ones, family_sum-family_union}
 use Rattle.mat_sets.proofs.Sums.{sum_of-ones}
-use Rattle.mat_sets.proofs.WeightOrder.{at_most_both}
 use Rattle.mat_union.specs.RightUnions.{IsBestUnion}
 use Rattle.mat_union.specs.Unions.{AreParts}
-use Rattle.mat_summary.specs.Summaries.{all_members}
 use Rattle.mat_summary.proofs.SummaryTotals.{all_members-sum}
 
 -- disjoint sets have as many members as their union

@@ -1,10 +1,7 @@
 -- The text of a line that was written in pieces, each of words behind spaces.
-use Rattle.std.proofs.Common.{◌≡◌, ℕ, List, [], ◌∷◌, ◌++◌, ◌∙◌, sym, ap}
+use Rattle.mat_summary.proofs.Common.{◌≡◌, ℕ, List, [], ◌∷◌, ◌++◌, ◌∙◌, sym, ap, append_assoc, Line, text_of, spaced}
 use Rattle.std.proofs.lemmas.Grind.{flat_map-append}
-use Rattle.std.proofs.lemmas.List.{append_assoc}
-use Rattle.mat_words.specs.Lines.{Line, text_of}
 use Rattle.mat_words.proofs.WrittenLines.{words_written}
-use Rattle.mat_words.specs.Writing.{spaced}
 
 -- three pieces are one
 spaced_pieces : (word : List ℕ) (first second third : Line)

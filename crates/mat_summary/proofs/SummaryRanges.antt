@@ -1,15 +1,9 @@
 -- The numbers of an answer in range are small enough to be added, and its sets rise.
-use Rattle.std.proofs.Common.{ℕ, ◌≤◌, List, [], ◌∷◌, length, get_or, arith}
+use Rattle.mat_summary.proofs.Common.{ℕ, ◌≤◌, List, [], ◌∷◌, length, get_or, arith, All-head, All-tail, All-weaker, slice_get-get_or, largest_number, most_elements, IsWeightWithin, AreRangedRungs, IsRangedPricedRung, PricedRung}
 use Rattle.std.specs.List.{All}
-use Rattle.std.proofs.lemmas.List.Elements.{All-head, All-tail, All-weaker}
-use Rattle.std.proofs.lemmas.Option.{slice_get-get_or}
-use Rattle.mat_sets.specs.Limits.{largest_number, most_elements}
 use Rattle.mat_sets.specs.Families.{AllRising}
 use Rattle.mat_sets.specs.Sets.{IsSet}
-use Rattle.mat_sets.specs.Weights.{IsWeightWithin}
 use Rattle.mat_sets.proofs.Ground.{IsSet-length}
-use Rattle.mat_cert.specs.Certificates.{AreRangedRungs, IsRangedPricedRung}
-use Rattle.mat_cert.specs.declared.answer.PricedRung.{PricedRung}
 
 -- the weights of a ladder
 pub rung_weights_within : (n : ℕ) (rungs : List PricedRung) → AreRangedRungs (IsRangedPricedRung n) n rungs

@@ -1,14 +1,8 @@
 -- What rungs and sets come to, read one after the other from the front.
-use Rattle.std.proofs.Common.{◌≡◌, ℕ, zero, suc, ◌+◌, ◌<◌, List, [], ◌∷◌, ◌++◌, length, get_or, take, Some, refl, ap, ◌∙◌, arith}
-use Rattle.std.specs.Prelude.{slice_get}
+use Rattle.mat_summary.proofs.Common.{◌≡◌, ℕ, zero, suc, ◌+◌, ◌<◌, List, [], ◌∷◌, ◌++◌, length, get_or, take, Some, refl, ap, ◌∙◌, arith, slice_get, ints, ◌⊕◌, pairs, all_members, ladder_weight, last_weight, PricedRung}
 use Rattle.std.specs.List.{sum_by}
-use Rattle.std.proofs.lemmas.Int.{ints}
 use Rattle.std.proofs.lemmas.List.{take_more}
 use Rattle.std.proofs.lemmas.List.Sums.{sum_by_more, sum_by-cons}
-use Rattle.mat_sets.specs.Weights.{◌⊕◌}
-use Rattle.mat_sets.proofs.WeightOrder.{pairs}
-use Rattle.mat_summary.specs.Summaries.{all_members, ladder_weight, last_weight}
-use Rattle.mat_cert.specs.declared.answer.PricedRung.{PricedRung}
 
 -- the last rung is the one at the last place
 pub last_weight-at : (rungs : List PricedRung) (k : ℕ) (rung : PricedRung) → suc k ≡ length rungs → slice_get rungs k ≡ Some rung

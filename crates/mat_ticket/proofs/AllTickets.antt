@@ -1,19 +1,8 @@
 -- What the outputs of a team of which each worker has finished say of all rows and all tickets.
-use Rattle.std.proofs.Common.{◌≡◌, ℕ, suc, ◌+◌, ◌<◌, List, [], ◌∷◌, length, map, Some, refl, sym, ap, ◌∙◌, subst, ⊎_elim, arith}
-use Rattle.std.specs.Prelude.{slice_get}
+use Rattle.mat_ticket.proofs.Common.{◌≡◌, ℕ, suc, ◌+◌, ◌<◌, List, [], ◌∷◌, length, map, Some, refl, sym, ap, ◌∙◌, subst, ⊎_elim, arith, slice_get, length-map, get_or_from_slice_get, TableId, AllRising, multiplicity, AllBelow, Output, Worker, AreRowsAt, output_of, IsDone, HasFinished, IsSeated}
+use Rattle.mat_ticket.proofs.Common.{IsRowOf, IsRowIn, FitsRoom, tickets_of}
 use Rattle.std.specs.List.{AllByRecursion}
-use Rattle.std.proofs.lemmas.List.{length-map}
-use Rattle.std.proofs.lemmas.Option.{get_or_from_slice_get}
-use Rattle.atomic_table.specs.Seated.{TableId}
-use Rattle.mat_sets.specs.Families.{AllRising, multiplicity}
-use Rattle.mat_sets.specs.Sets.{AllBelow}
 use Rattle.mat_work.specs.Rows.{StandFrom}
-use Rattle.mat_ticket.specs.declared.output.Output.{Output}
-use Rattle.mat_ticket.specs.declared.worker.Worker.{Worker}
-use Rattle.mat_ticket.specs.Outputs.{AreRowsAt}
-use Rattle.mat_ticket.specs.Workers.{output_of, IsDone}
-use Rattle.mat_ticket.specs.Joined.{HasFinished, IsSeated}
-use Rattle.mat_ticket.specs.Placing.{IsRowOf, IsRowIn, FitsRoom, tickets_of}
 use Rattle.mat_ticket.specs.Tickets.{AreTickets}
 
 module _ {X : Type 0} (table : TableId) (stands : ℕ → X → Type 0) (count : ℕ) where

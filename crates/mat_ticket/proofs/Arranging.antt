@@ -1,16 +1,8 @@
 -- The rows of all workers, put at their tickets and taken out in order.
-use Rattle.std.proofs.Common.{◌≡◌, ℕ, zero, suc, ◌+◌, ◌<◌, ◌≤◌, true, ◌==◌, List, [], ◌∷◌, ◌++◌, length, map, Option, Some, None, get_or, set, inl, inr, sym, ap, ◌∙◌, subst, ⊎_elim, arith}
-use Rattle.std.specs.Prelude.{slice_get}
+use Rattle.mat_ticket.proofs.Common.{◌≡◌, ℕ, zero, suc, ◌+◌, ◌<◌, ◌≤◌, true, ◌==◌, List, [], ◌∷◌, ◌++◌, length, map, Option, Some, None, get_or, set, inl, inr, sym, ap, ◌∙◌, subst, ⊎_elim, arith, slice_get, cases_Bool, cases_lt, eqb-true, false≢true, or_cases, append_assoc, length_push, length-set}
+use Rattle.mat_ticket.proofs.Common.{get_or_from_slice_get, indicator, multiplicity, is_member, multiplicity-none, Output, HasItem, IsRowIn, ArePlaced, FitsRoom, tickets_of}
 use Rattle.std.specs.List.{AllByRecursion}
-use Rattle.std.proofs.lemmas.Bool.{cases_Bool, cases_lt, eqb-true, false≢true, or_cases}
-use Rattle.std.proofs.lemmas.List.{append_assoc, length_push, length-set}
-use Rattle.std.proofs.lemmas.Option.{get_or_from_slice_get}
-use Rattle.mat_sets.specs.Families.{indicator, multiplicity}
-use Rattle.mat_sets.specs.Sets.{is_member}
 use Rattle.mat_sets.proofs.Families.{multiplicity-append}
-use Rattle.mat_sets.proofs.Steps.{multiplicity-none}
-use Rattle.mat_ticket.specs.declared.output.Output.{Output}
-use Rattle.mat_ticket.specs.Placing.{HasItem, IsRowIn, ArePlaced, FitsRoom, tickets_of}
 use Rattle.mat_ticket.proofs.Drawing.{slice_get-push}
 use Rattle.mat_ticket.proofs.Slots.{slice_get-set_else}
 

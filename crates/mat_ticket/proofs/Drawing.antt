@@ -1,13 +1,7 @@
 -- One ticket more, with its row.
-use Rattle.std.proofs.Common.{◌≡◌, ◌⊎◌, ℕ, zero, suc, ◌<◌, ◌≤◌, List, [], ◌∷◌, ◌++◌, length, Some, inl, inr, refl, sym, ap, ◌∙◌, subst, ⊎_elim, arith}
-use Rattle.std.specs.Prelude.{slice_get}
+use Rattle.mat_ticket.proofs.Common.{◌≡◌, ◌⊎◌, ℕ, zero, suc, ◌<◌, ◌≤◌, List, [], ◌∷◌, ◌++◌, length, Some, inl, inr, refl, sym, ap, ◌∙◌, subst, ⊎_elim, arith, slice_get, get_or_append_left, get_or_push, length_push, slice_get_within, AllBelow, IsRising, RisesFrom, beyond, AreRowsAt}
 use Rattle.std.specs.List.{sum_by}
-use Rattle.std.proofs.lemmas.List.{get_or_append_left, get_or_push, length_push}
-use Rattle.std.proofs.lemmas.Option.{slice_get_within}
-use Rattle.mat_sets.specs.Sets.{AllBelow, IsRising, RisesFrom}
 use Rattle.mat_sets.proofs.Ground.{AllBelow-append}
-use Rattle.mat_ticket.specs.Sums.{beyond}
-use Rattle.mat_ticket.specs.Outputs.{AreRowsAt}
 use Rattle.mat_ticket.proofs.Sums.{sum_by-beyond_none}
 
 RisesFrom-push : (lo : ℕ) (xs : List ℕ) (n : ℕ) → RisesFrom lo xs → lo ≤ n → AllBelow n xs → RisesFrom lo (xs ++ n ∷ [])

@@ -1,23 +1,8 @@
 -- The seats of a team are joined one after the other: the one that is left has drawn all tickets, and a number that is not below the count.
 -- Below the count what it drew weighs what the tickets weigh, and also what the numbers below the next one weigh. So the tickets are these.
-use Rattle.std.proofs.Common.{◌≡◌, ℕ, zero, suc, ◌+◌, ◌<◌, ◌≤◌, Bool, true, false, ◌&&◌, ◌||◌, ◌==◌, List, [], ◌∷◌, ◌++◌, length, map, get_or, take, drop, inl, inr, refl, sym, ap, ◌∙◌, subst, arith}
-use Rattle.std.proofs.lemmas.Bool.{cases_lt, and_parts}
-use Rattle.std.proofs.lemmas.Bool.Decides.{nat_tests}
-use Rattle.std.proofs.lemmas.List.{append_assoc}
-use Rattle.std.proofs.lemmas.List.Sums.{sum_by-cons, sum_by-append, sum_by_push}
+use Rattle.mat_ticket.proofs.Common.{◌≡◌, ℕ, zero, suc, ◌+◌, ◌<◌, ◌≤◌, Bool, true, false, ◌&&◌, ◌||◌, ◌==◌, List, [], ◌∷◌, ◌++◌, length, map, get_or, take, drop, inl, inr, refl, sym, ap, ◌∙◌, subst, arith, cases_lt, and_parts, nat_tests, append_assoc, sum_by-cons, sum_by-append, sum_by_push}
+use Rattle.mat_ticket.proofs.Common.{TableId, indicator, multiplicity, is_member, TicketView, Output, Worker, beyond, sum_below, joined_view, IsLast, output_of, share_of, tickets_sum, HasFinished, IsSeated, AreJoined, tickets_of}
 use Rattle.std.specs.List.{AllByRecursion, sum_by}
-use Rattle.atomic_table.specs.Seated.{TableId}
-use Rattle.mat_sets.specs.Families.{indicator, multiplicity}
-use Rattle.mat_sets.specs.Sets.{is_member}
-use Rattle.mat_ticket.specs.declared.ticket_word.TicketView.{TicketView}
-use Rattle.mat_ticket.specs.declared.output.Output.{Output}
-use Rattle.mat_ticket.specs.declared.worker.Worker.{Worker}
-use Rattle.mat_ticket.specs.Sums.{beyond, sum_below}
-use Rattle.mat_ticket.specs.WordStates.{joined_view}
-use Rattle.mat_ticket.specs.Outputs.{IsLast}
-use Rattle.mat_ticket.specs.Workers.{output_of, share_of}
-use Rattle.mat_ticket.specs.Joined.{tickets_sum, HasFinished, IsSeated, AreJoined}
-use Rattle.mat_ticket.specs.Placing.{tickets_of}
 use Rattle.mat_ticket.proofs.Sums.{beyond-past, sum_below-none}
 
 -- what `remove(0)` takes is the first item

@@ -1,3 +1,4 @@
+pub mod Common
 pub mod Sums
 pub mod Views
 pub mod WordSteps

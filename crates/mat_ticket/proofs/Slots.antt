@@ -1,12 +1,7 @@
 -- Rows put at the places of their tickets, from the last row to the first.
-use Rattle.std.proofs.Common.{◌≡◌, ◌⊎◌, ℕ, zero, suc, ◌<◌, List, [], ◌∷◌, ◌++◌, length, Option, Some, set, slice_index, inl, inr, refl, sym, ap, ◌∙◌, subst, ⊎_elim, arith}
-use Rattle.std.specs.Prelude.{slice_get}
-use Rattle.std.proofs.lemmas.Bool.{cases_lt}
-use Rattle.std.proofs.lemmas.List.{append_assoc, length-append, length-set}
-use Rattle.std.proofs.lemmas.Option.{same_Some, slice_get_within, slice_get-get_or}
-use Rattle.mat_sets.specs.Sets.{AllBelow}
+use Rattle.mat_ticket.proofs.Common.{◌≡◌, ◌⊎◌, ℕ, zero, suc, ◌<◌, List, [], ◌∷◌, ◌++◌, length, Option, Some, set, slice_index, inl, inr, refl, sym, ap, ◌∙◌, subst, ⊎_elim, arith, slice_get, cases_lt, append_assoc, length-append, length-set, same_Some, slice_get_within, slice_get-get_or, AllBelow}
+use Rattle.mat_ticket.proofs.Common.{HasItem, ArePlaced}
 use Rattle.mat_sets.proofs.Sums.{AllBelow-at}
-use Rattle.mat_ticket.specs.Placing.{HasItem, ArePlaced}
 
 slice_get-set : {X : Type 0} (xs : List X) (i j : ℕ) (y z : X) → slice_get (set xs i y) j ≡ Some z
     → ((j ≡ i) × (y ≡ z)) ⊎ (slice_get xs j ≡ Some z)

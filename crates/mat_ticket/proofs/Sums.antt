@@ -1,11 +1,6 @@
 -- Sums over numbers: those of a list and those below a bound, where each that is not below the count weighs 1.
-use Rattle.std.proofs.Common.{◌≡◌, ℕ, zero, suc, ◌+◌, ◌<◌, ◌≤◌, List, [], ◌∷◌, inl, inr, refl, arith}
-use Rattle.std.proofs.lemmas.Bool.{cases_lt}
-use Rattle.std.proofs.lemmas.Bool.Decides.{nat_tests}
-use Rattle.std.proofs.lemmas.List.Sums.{sum_by-cons}
+use Rattle.mat_ticket.proofs.Common.{◌≡◌, ℕ, zero, suc, ◌+◌, ◌<◌, ◌≤◌, List, [], ◌∷◌, inl, inr, refl, arith, cases_lt, nat_tests, sum_by-cons, AllBelow, sum_below, beyond}
 use Rattle.std.specs.List.{sum_by}
-use Rattle.mat_sets.specs.Sets.{AllBelow}
-use Rattle.mat_ticket.specs.Sums.{sum_below, beyond}
 
 beyond-below : (count x : ℕ) → x < count → beyond count x ≡ 0
 beyond-below count x l = grind (arith, nat_tests)

@@ -1,10 +1,7 @@
 -- The shares of a team of workers: with one worker more, and after the work.
-use Rattle.std.proofs.Common.{◌≡◌, ℕ, suc, ◌+◌, ◌<◌, List, [], ◌∷◌, ◌++◌, length, get_or, refl, arith}
+use Rattle.mat_ticket.proofs.Common.{◌≡◌, ℕ, suc, ◌+◌, ◌<◌, List, [], ◌∷◌, ◌++◌, length, get_or, refl, arith, sum_by-cons, sum_by_push, Worker, share_of}
 use Rattle.std.specs.List.{sum_by}
-use Rattle.std.proofs.lemmas.List.Sums.{sum_by-cons, sum_by_push}
 use Rattle.mat_sets.proofs.EachItem.{AllByRecursion-push}
-use Rattle.mat_ticket.specs.declared.worker.Worker.{Worker}
-use Rattle.mat_ticket.specs.Workers.{share_of}
 
 pub share_of-push : {X : Type 0} (ws : List (Worker X)) (w : Worker X) → sum_by share_of (ws ++ w ∷ []) ≡ sum_by share_of ws + share_of w
 share_of-push ws w = sum_by_push share_of ws w

@@ -1,11 +1,8 @@
 -- Sums over what all seats hold: after one seat changes, and where one seat has all shares.
-use Rattle.std.proofs.Common.{◌≡◌, ℕ, zero, suc, ◌+◌, ◌<◌, ◌≤◌, List, [], ◌∷◌, length, get_or, set, refl, sym, ap, subst, arith}
+use Rattle.mat_ticket.proofs.Common.{◌≡◌, ℕ, zero, suc, ◌+◌, ◌<◌, ◌≤◌, List, [], ◌∷◌, length, get_or, set, refl, sym, ap, subst, arith, sum_by-cons, sum_by-set, get_or-le-sum_by, TicketView, IsWithinShare}
 use Rattle.std.specs.List.{sum_by}
-use Rattle.std.proofs.lemmas.List.Sums.{sum_by-cons, sum_by-set, get_or-le-sum_by}
 use mathlib.Core.Option.{some, some-injective, some-ne-none}
 use lib.ListN.{get_elem?}
-use Rattle.mat_ticket.specs.declared.ticket_word.TicketView.{TicketView}
-use Rattle.mat_ticket.specs.WordStates.{IsWithinShare}
 
 view_at : (views : List TicketView) (seat : ℕ) (v : TicketView) → get_elem? views seat ≡ some v → (seat < length views) × (get_or views seat v ≡ v)
 view_at [] seat v e = absurd (some-ne-none v (sym e))

@@ -1,16 +1,11 @@
 -- The kinds of step on the ticket word keep its rule, and what it tells of a seat with all shares.
-use Rattle.std.proofs.Common.{◌≡◌, ◌≢◌, ℕ, suc, ◌+◌, ◌%◌, ◌^◌, ◌<◌, ◌≤◌, List, [], ◌∷◌, ◌++◌, set, refl, sym, ap, ◌∙◌, subst, ⊎_elim, arith}
+use Rattle.mat_ticket.proofs.Common.{◌≡◌, ◌≢◌, ℕ, suc, ◌+◌, ◌%◌, ◌^◌, ◌<◌, ◌≤◌, List, [], ◌∷◌, ◌++◌, set, refl, sym, ap, ◌∙◌, subst, ⊎_elim, arith, slice_index, slice_set, sum_by-append, sum_by_push, AllBelow, TicketView, beyond, sum_below, ticket_view, IsWithinShare, IsTicketWord, IsDraw}
+use Rattle.mat_ticket.proofs.Common.{less_one_share, one_share, joined_view, spent_view}
 use Rattle.std.specs.List.{sum_by}
-use Rattle.std.specs.Prelude.{slice_index, slice_set}
-use Rattle.std.proofs.lemmas.List.Sums.{sum_by-append, sum_by_push}
 use mathlib.Core.Option.{some, none}
 use lib.ListN.{get_elem?}
 use Rattle.atomic_table.specs.Table.{State, Act, keeps, step, Allows, Final, Seen, Splits, Joins, Valid, homes_after, carried_after}
 use Rattle.atomic_table.proofs.Lists.{at_set, at_snoc}
-use Rattle.mat_sets.specs.Sets.{AllBelow}
-use Rattle.mat_ticket.specs.declared.ticket_word.TicketView.{TicketView}
-use Rattle.mat_ticket.specs.Sums.{beyond, sum_below}
-use Rattle.mat_ticket.specs.WordStates.{ticket_view, IsWithinShare, IsTicketWord, IsDraw, less_one_share, one_share, joined_view, spent_view}
 use Rattle.mat_ticket.proofs.Sums.{beyond-le, sum_below-none, sum_below-some, AllBelow-beyond_none}
 use Rattle.mat_ticket.proofs.Views.{sum_by-changed, one-le-sum_by, sum_by-le, has_all}
 

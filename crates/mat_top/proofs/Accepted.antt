@@ -1,15 +1,11 @@
 -- What a solving command printed is accepted: the text of a solution is that of an answer in range which fits the problem and is right.
-use Rattle.std.proofs.Common.{◌≡◌, ℕ, List, Option, Some, refl, inr}
-use Rattle.mat_problem.specs.Instances.{Instance}
+use Rattle.mat_top.proofs.Common.{◌≡◌, ℕ, List, Option, Some, refl, inr, Instance, length-certificate_text, IsDescribed, IsCertificateOutcome, IsOutcome}
 use Rattle.mat_cert.specs.Certificates.{Certificate, certificate_text}
-use Rattle.mat_cert.proofs.Lengths.{length-certificate_text}
 use Rattle.mat_check.proofs.AnswerForms.{right_fits}
 use Rattle.mat_solve.specs.declared.query.Query.{Query}
 use Rattle.mat_judge.specs.declared.status.Status.TheVariants as statuses
 use Rattle.mat_solve.specs.Answers.{IsSolution, IsSolutionText}
 use Rattle.mat_command.specs.CommandLines as commands
-use Rattle.mat_judge.specs.Described.{IsDescribed}
-use Rattle.mat_top.specs.Outcomes.{IsCertificateOutcome, IsOutcome}
 
 pub solution_accepted : (instance : Instance) (answer : Certificate) → IsSolution instance answer
     → IsCertificateOutcome instance (certificate_text answer) statuses.Done

@@ -1,27 +1,14 @@
 -- What a list of jobs comes to: the refusal of the first job without a problem is that of the call, and the texts of all may be written.
-use Rattle.std.proofs.Common.{◌≡◌, ℕ, ◌≤◌, List, [], ◌∷◌, ◌++◌, Option, Some, refl, inl, inr, ap, subst}
-use Rattle.std.specs.Global.{Vec}
-use Rattle.std.specs.Prelude.{◌≢◌, length, map, All, IfSome, IsSome}
-use Rattle.std.proofs.lemmas.List.Elements.{All-nil, All-cons}
+use Rattle.mat_top.proofs.Common.{◌≡◌, ℕ, ◌≤◌, List, [], ◌∷◌, ◌++◌, Option, Some, refl, inl, inr, ap, subst, Vec, ◌≢◌, length, map, All, IfSome, IsSome, All-nil, All-cons, instance_of, certificate_limit, LoadedJob, Status, batch, solve, Job, IsListed, IsJobOutcome, IsJobsOutcome, TellsJobs}
+use Rattle.mat_top.proofs.Common.{JobsReach, IsTrueOfJobs, Tells, IsOutcome, IsRequestOutput, AreJobTexts, IsLoaded, AreLoaded, IsUnloaded, AreUnloaded, HaveTexts, refusal_of_unloaded, HasSolutionText, MayBeWritten, IsRefusal, Unloaded, told, told_both, if_told}
 use Rattle.mat_shelf.specs.Faults.{Rose}
-use Rattle.mat_problem.specs.Views.{instance_of}
 use Rattle.mat_desc.specs.declared.refusal.DescKind.{DescKind}
-use Rattle.mat_cert.specs.Limits.{certificate_limit}
-use Rattle.mat_top.specs.declared.loaded_job.LoadedJob.{LoadedJob}
-use Rattle.mat_judge.specs.declared.status.Status.{Status}
 use Rattle.mat_judge.specs.declared.status.Status.TheVariants as statuses
-use Rattle.mat_command.specs.CommandLines.{batch, solve}
-use Rattle.mat_command.specs.JobLists.{Job, IsListed}
-use Rattle.mat_top.specs.Outcomes.{IsJobOutcome, IsJobsOutcome, TellsJobs, JobsReach, IsTrueOfJobs, Tells, IsOutcome, IsRequestOutput, AreJobTexts}
-use Rattle.mat_top.specs.LoadedJobs.{IsLoaded, AreLoaded, IsUnloaded, AreUnloaded, HaveTexts, refusal_of_unloaded}
-use Rattle.mat_top.specs.Refusals.{HasSolutionText, MayBeWritten, IsRefusal}
 use Rattle.mat_judge.specs.Texts.{joined, all_texts}
 use Rattle.mat_judge.specs.declared.described.Undescribed.TheVariants as undescribed
 use Rattle.mat_judge.specs.declared.reading.Unread.TheVariants as unread
 use Rattle.mat_judge.specs.declared.refusal.Denial.TheVariants as denials
-use Rattle.mat_top.specs.declared.loading.Unloaded.{Unloaded}
 use Rattle.mat_top.specs.declared.loading.Unloaded.TheVariants as unloaded
-use Rattle.mat_judge.proofs.Told.{told, told_both, if_told}
 
 -- ---- the first job without a problem
 

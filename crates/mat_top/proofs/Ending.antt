@@ -1,17 +1,11 @@
 -- How a command ended, as each clause of the top call says it: by cases on the refusal.
-use Rattle.std.proofs.Common.{ℕ, List, Option, Some, Result, Ok, Err, refl, sym, subst}
-use Rattle.mat_command.specs.CommandLines.{Task}
-use Rattle.mat_judge.specs.Notes.{note_of}
+use Rattle.mat_top.proofs.Common.{ℕ, List, Option, Some, Result, Ok, Err, refl, sym, subst, Task, note_of, Refusal, Status, IsWritten, IsNote, IsTold, IsRefusal, IsEnded}
 use Rattle.mat_judge.specs.Statuses.{status_of, status_of_denial}
 use Rattle.mat_judge.specs.declared.reading.Unread.TheVariants as unread
 use Rattle.mat_judge.specs.declared.refusal.Denial.{Denial}
 use Rattle.mat_judge.specs.declared.refusal.Denial.TheVariants as denials
-use Rattle.mat_judge.specs.declared.refusal.Refusal.{Refusal}
 use Rattle.mat_judge.specs.declared.refusal.Refusal.TheVariants as refusals
-use Rattle.mat_judge.specs.declared.status.Status.{Status}
 use Rattle.mat_judge.specs.declared.status.Status.TheVariants as statuses
-use Rattle.mat_top.specs.Outcomes.{IsWritten, IsNote, IsTold}
-use Rattle.mat_top.specs.Refusals.{IsRefusal, IsEnded}
 
 abbrev pub Ended : Type 0
 Ended = Result (Unit {0}) Refusal

@@ -1,10 +1,6 @@
 -- Rows that stand, one for each job, are the texts of all jobs.
-use Rattle.std.proofs.Common.{◌≡◌, ℕ, suc, ◌+◌, List, [], ◌∷◌, length, Some, refl, subst, arith}
-use Rattle.std.specs.Global.{Vec}
-use Rattle.std.specs.Prelude.{slice_get}
+use Rattle.mat_top.proofs.Common.{◌≡◌, ℕ, suc, ◌+◌, List, [], ◌∷◌, length, Some, refl, subst, arith, Vec, slice_get, LoadedJob, IsTextAt, HaveTexts}
 use Rattle.mat_work.specs.Rows.{StandFrom}
-use Rattle.mat_top.specs.declared.loaded_job.LoadedJob.{LoadedJob}
-use Rattle.mat_top.specs.LoadedJobs.{IsTextAt, HaveTexts}
 
 texts_from : (all : List LoadedJob) (from : ℕ) (jobs : List LoadedJob) (rows : List (Vec ℕ))
     → ((i : ℕ) (loaded : LoadedJob) → slice_get jobs i ≡ Some loaded → slice_get all (from + i) ≡ Some loaded) → length rows ≡ length jobs

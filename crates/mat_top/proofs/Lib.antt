@@ -1,3 +1,4 @@
+pub mod Common
 pub mod Refusing
 pub mod Ending
 mod Accepted

@@ -1,30 +1,17 @@
 -- Jobs whose problems are read one after the other: a job that has its problem may be solved, and a refusal of the first job without one is
 -- a refusal of them all.
-use Rattle.std.proofs.Common.{◌≡◌, ℕ, ◌+◌, ◌<◌, ◌≤◌, Bool, true, false, List, [], ◌∷◌, ◌++◌, Option, refl, inl, inr, sym, ap, subst, ◌∙◌, arith}
-use Rattle.std.specs.Prelude.{map, length, drop, get_or, IfSome}
-use Rattle.std.proofs.lemmas.List.{append_assoc, append-nil, drop_more, drop_all}
-use Rattle.std.proofs.lemmas.List.Elements.{All-push}
-use Rattle.mat_problem.specs.Instances.{Instance}
-use Rattle.mat_problem.specs.Views.{instance_of}
-use Rattle.mat_top.specs.declared.loaded_job.LoadedJob.{LoadedJob}
+use Rattle.mat_top.proofs.Common.{◌≡◌, ℕ, ◌+◌, ◌<◌, ◌≤◌, Bool, true, false, List, [], ◌∷◌, ◌++◌, Option, refl, inl, inr, sym, ap, subst, ◌∙◌, arith, map, length, drop, get_or, IfSome, append_assoc, append-nil, All-push, Instance, instance_of, LoadedJob, Job, solve, IsFaulty, IsDescribed}
+use Rattle.mat_top.proofs.Common.{IsUndescribed, Unloaded, IsBytesOutcome, MayBeSolved, IsLoaded, AreLoaded, IsAnswerable, IsOfOtherForm, IsUnloaded, AreUnloaded, IsLoading, IsJobProblem, job_of, if_told, unread_before}
+use Rattle.std.proofs.lemmas.List.{drop_more, drop_all}
 use Rattle.mat_command.specs.declared.job.Job as declared
 use Rattle.mat_judge.specs.declared.status.Status.TheVariants as statuses
-use Rattle.mat_command.specs.JobLists.{Job}
-use Rattle.mat_command.specs.CommandLines.{solve}
-use Rattle.mat_judge.specs.Described.{IsFaulty, IsDescribed, IsUndescribed}
 use Rattle.mat_judge.specs.WholeFiles.{IsUnread}
 use Rattle.mat_judge.specs.declared.described.Undescribed.{Undescribed}
 use Rattle.mat_judge.specs.declared.described.Undescribed.TheVariants as undescribed
 use Rattle.mat_judge.specs.declared.reading.Unread.TheVariants as unread
-use Rattle.mat_top.specs.declared.loading.Unloaded.{Unloaded}
 use Rattle.mat_top.specs.declared.loading.Unloaded.TheVariants as unloaded
-use Rattle.mat_top.specs.Outcomes.{IsBytesOutcome, MayBeSolved}
 use Rattle.mat_desc.specs.Limits.{description_limit}
-use Rattle.mat_top.specs.LoadedJobs.{IsLoaded, AreLoaded, IsAnswerable, IsOfOtherForm, IsUnloaded, AreUnloaded, IsLoading}
 use Rattle.mat_solve.specs.Queries.{has_form}
-use Rattle.mat_top.specs.Refusals.{IsJobProblem}
-use Rattle.mat_command.specs.Views.{job_of}
-use Rattle.mat_judge.proofs.Told.{if_told, unread_before}
 
 pub may_be_solved : (held : List ℕ → Option (List ℕ)) (job : Job) (instance : Instance) → IsJobProblem held job instance
     → MayBeSolved held job

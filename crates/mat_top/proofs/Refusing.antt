@@ -1,16 +1,12 @@
 -- What is found of a problem and of a certificate is the outcome of a request about the problem in a file, where the shelf tells its files.
-use Rattle.std.proofs.Common.{◌≡◌, ◌⊎◌, ℕ, ◌<◌, ◌≤◌, List, length, Option, Some, None, Result, Ok, Err, true, refl, inl, inr, subst}
+use Rattle.mat_top.proofs.Common.{◌≡◌, ◌⊎◌, ℕ, ◌<◌, ◌≤◌, List, length, Option, Some, None, Result, Ok, Err, true, refl, inl, inr, subst, IfSome, IsSome, IsSomeAnd, IfOk, IfErr, Instance, rooted, certificate_limit, Request, show, solve, cuts, check, witness, verify, about, IsDescribed, Refusal}
+use Rattle.mat_top.proofs.Common.{Status, told, told_both, if_told, IsCutsText, IsProblemOutcome, IsBytesOutcome, IsCertificateOutcome, IsWitnessOutcome, CallReaches, Tells, TellsCertificate, IsOutcome, IsTextFor, IsTrueOf, HasText, HasNoText, IsRefusal, MayBeWritten}
 use Rattle.std.proofs.lemmas.Bool.{and_parts}
-use Rattle.std.specs.Prelude.{IfSome, IsSome, IsSomeAnd, IfOk, IfErr}
-use Rattle.mat_problem.specs.Instances.{Instance, rooted}
 use Rattle.mat_cert.specs.Certificates.{Certificate}
-use Rattle.mat_cert.specs.Limits.{certificate_limit}
 use Rattle.mat_cert.specs.declared.refusal.CertKind.{CertKind}
 use Rattle.mat_check.specs.Fitting.{fits, is_rooted}
 use Rattle.mat_witness.specs.Kinds.{has_rung, is_witnessed_pair}
-use Rattle.mat_command.specs.CommandLines.{Request, show, solve, cuts, check, witness, verify, about}
 use Rattle.mat_judge.specs.Certified.{IsFaultyCertificate, IsNotRight, IsUncertified}
-use Rattle.mat_judge.specs.Described.{IsDescribed}
 use Rattle.mat_judge.specs.Statuses.{refusal_of_not_right, refusal_of_uncertified}
 use Rattle.mat_judge.specs.declared.certified.NotRight.{NotRight}
 use Rattle.mat_judge.specs.declared.certified.NotRight.TheVariants as not_right
@@ -18,14 +14,7 @@ use Rattle.mat_judge.specs.declared.certified.Uncertified.{Uncertified}
 use Rattle.mat_judge.specs.declared.certified.Uncertified.TheVariants as uncertified
 use Rattle.mat_judge.specs.declared.reading.Unread.TheVariants as unread
 use Rattle.mat_judge.specs.declared.refusal.Denial.TheVariants as denials
-use Rattle.mat_judge.specs.declared.refusal.Refusal.{Refusal}
-use Rattle.mat_judge.specs.declared.status.Status.{Status}
 use Rattle.mat_judge.specs.declared.status.Status.TheVariants as statuses
-use Rattle.mat_judge.proofs.Told.{told, told_both, if_told}
-use Rattle.mat_top.specs.CutTexts.{IsCutsText}
-use Rattle.mat_top.specs.Outcomes.{IsProblemOutcome, IsBytesOutcome, IsCertificateOutcome, IsWitnessOutcome}
-use Rattle.mat_top.specs.Outcomes.{CallReaches, Tells, TellsCertificate, IsOutcome, IsTextFor, IsTrueOf}
-use Rattle.mat_top.specs.Refusals.{HasText, HasNoText, IsRefusal, MayBeWritten}
 use Rattle.mat_verify.specs.WitnessOutcomes.{IsRungOutcome, IsVerifyOutcome, IsWitnessFound}
 use Rattle.mat_verify.specs.WitnessRefusals.{HasNoRung, HasNoWitness, IsUnshown, IsUnverified, refusal_of_no_rung, refusal_of_unshown}
 use Rattle.mat_verify.specs.Witnessing.{IsRungAnswer}

@@ -1,14 +1,6 @@
 -- An element that can be added to a part comes into the parts by one move, and no other element moves.
-use Rattle.std.proofs.Common.{◌≡◌, ℕ, suc, zero, ◌<◌, Bool, true, false, not, ◌||◌, ◌&&◌, eqb, List, [], ◌∷◌, length, refl, sym, ap, ◌∙◌, subst, arith}
-use Rattle.std.proofs.lemmas.Bool.{both_ways, false_from_ne_true}
-use Rattle.mat_sets.specs.Families.{family_union}
-use Rattle.mat_sets.specs.Sets.{is_member, minus}
-use Rattle.mat_sets.proofs.Members.{is_member-minus, is_member-union}
-use Rattle.mat_union.specs.Moves.{all_moved, elements, entering, exchanges_with, moved, place_at, AreMoved}
-use Rattle.mat_union.specs.Placings.{ArePlaced}
-use Rattle.mat_union.specs.UnionLaws.{chordless_moves}
-use Rattle.mat_union.specs.Unions.{part_at, AreMatroids, AreParts}
-use Rattle.mat_union.specs.declared.moves.Move.{Move}
+use Rattle.mat_union.proofs.Common.{◌≡◌, ℕ, suc, zero, ◌<◌, Bool, true, false, not, ◌||◌, ◌&&◌, eqb, List, [], ◌∷◌, length, refl, sym, ap, ◌∙◌, subst, arith, both_ways, false_from_ne_true, family_union, is_member, minus, is_member-minus, is_member-union, all_moved, elements, entering}
+use Rattle.mat_union.proofs.Common.{exchanges_with, moved, place_at, AreMoved, ArePlaced, chordless_moves, part_at, AreMatroids, AreParts, Move}
 use Rattle.mat_union.proofs.PlacedElements.{entering_elements, moved_list}
 
 module _ {n : ℕ} {tests : List (List ℕ → Bool)} {parts : List (List ℕ)} (laws : AreMatroids n tests) (are : AreParts tests parts) (x q : ℕ)

@@ -1,14 +1,6 @@
 -- A search for moves reads the rows of the elements in within alone: two families of exchanges that agree there have the same ends.
-use Rattle.std.proofs.Common.{◌≡◌, ℕ, suc, zero, ◌<◌, Bool, true, eqb, List, length, get_or, sym, ◌∙◌, arith}
-use Rattle.mat_sets.specs.Sets.{is_member}
-use Rattle.mat_sets.specs.Walks.{IsReachedSet, IsWalk}
-use Rattle.mat_sets.proofs.Reach.{reached_by_induction}
-use Rattle.mat_sets.proofs.Search.{some_below_from, some_below_gives}
-use Rattle.mat_laws.specs.TightPaths.{Exchanges}
-use Rattle.mat_union.specs.Moves.{can_push, element_at, place_at, IsMovePath, IsMoves, IsShortestMovePath, IsStuck}
-use Rattle.mat_union.specs.declared.moves.Moves.{Moves}
-use Rattle.mat_union.specs.declared.moves.Moves.TheVariants.{Path, Stuck}
-use Rattle.mat_union.specs.declared.moves.Move.{Move}
+use Rattle.mat_union.proofs.Common.{◌≡◌, ℕ, suc, zero, ◌<◌, Bool, true, eqb, List, length, get_or, sym, ◌∙◌, arith, is_member, IsReachedSet, IsWalk, reached_by_induction, some_below_from, some_below_gives, Exchanges, can_push, element_at, place_at, IsMovePath, IsMoves, IsShortestMovePath, IsStuck}
+use Rattle.mat_union.proofs.Common.{Moves, Path, Stuck, Move}
 
 -- two families of exchanges agree at the elements of within; there a search stays: elements that start are in it, and so is what an
 -- element in it can take the place of

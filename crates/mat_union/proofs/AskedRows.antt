@@ -1,17 +1,6 @@
 -- The row of an element at a part answers what a search asks for.
-use Rattle.std.proofs.Common.{◌≡◌, ℕ, ◌<◌, Bool, List, length, get_or, map, refl, sym, ap, ◌∙◌, subst, arith}
-use Rattle.mat_sets.specs.Sets.{is_member, AllBelow}
-use Rattle.mat_laws.specs.declared.exchange.Exchange.{Exchange}
-use Rattle.mat_laws.specs.Exchanges.{row_of}
-use Rattle.mat_laws.specs.TightPaths.{Exchanges}
-use Rattle.mat_sets.proofs.Ground.{AllBelow-from_members}
-use Rattle.mat_sets.proofs.Members.{is_member-get_or}
-use Rattle.mat_union.specs.EndedSearches.{IsReady}
-use Rattle.mat_union.specs.Moves.{exchanges_with}
-use Rattle.mat_union.specs.MoveSearches.{element_asked, IsAnswered, IsReaching}
-use Rattle.mat_union.specs.Unions.{part_at, test_at, AreParts}
-use Rattle.mat_union.specs.declared.move_search.MoveSearch.{MoveSearch}
-use Rattle.mat_laws.proofs.Rows.{row_of-adds, row_of-trades}
+use Rattle.mat_union.proofs.Common.{◌≡◌, ℕ, ◌<◌, Bool, List, length, get_or, map, refl, sym, ap, ◌∙◌, subst, arith, is_member, AllBelow, Exchange, row_of, Exchanges, AllBelow-from_members, is_member-get_or, IsReady, exchanges_with, element_asked, IsAnswered, IsReaching, part_at, test_at, AreParts}
+use Rattle.mat_union.proofs.Common.{MoveSearch, row_of-adds, row_of-trades}
 use Rattle.mat_union.proofs.SoundMatroids.{parts_count, test_is}
 
 pub row_answers : (tests : List (List ℕ → Bool)) (parts : List (List ℕ)) (s : MoveSearch) (test : List ℕ → Bool) (part : List ℕ) (x q : ℕ) (row : Exchange)

@@ -1,21 +1,11 @@
 -- The steps of a search that asks for exchanges: it begins, is told those of an element at one part after the other, and goes on to the next
 -- element of the queue. Whatever holds of the start and goes on along the known arcs holds of what they lead to.
-use Rattle.std.proofs.Common.{◌≡◌, ◌≢◌, ℕ, suc, ◌+◌, ◌*◌, ◌-◌, ◌<◌, Bool, true, false, not, ◌||◌, ◌&&◌, ◌⊎◌, eqb, List, [], ◌∷◌, ◌++◌, length, get_or, take, inl, inr, refl, sym, ap, ◌∙◌, subst, arith, length-append}
+use Rattle.mat_union.proofs.Common.{◌≡◌, ◌≢◌, ℕ, suc, ◌+◌, ◌*◌, ◌-◌, ◌<◌, Bool, true, false, not, ◌||◌, ◌&&◌, ◌⊎◌, eqb, List, [], ◌∷◌, ◌++◌, length, get_or, take, inl, inr, refl, sym, ap, ◌∙◌, subst, arith, length-append, and_parts, cases_Bool, cases_eq, eq-eqb, eqb-true, false≢true, or_cases}
+use Rattle.mat_union.proofs.Common.{or_from, or_left, or_right, get_or_append_left, take-append-le, some_below, is_member, without_one, is_member-append, is_member-get_or, is_member-without_one, only_member, is_member-take_more, Exchanges, can_enter, can_push, left_over, AreTaken, IsReachingTo}
+use Rattle.mat_union.proofs.Common.{row_at, and_not_gives, and_not_none, some_below-zero}
 use Rattle.std.proofs.Math.Nat.{suc-mul}
 use Rattle.std.proofs.Math.Numerals.{add-one}
 use Rattle.std.proofs.Math.Seq.{get_or-append_seam}
-use Rattle.std.proofs.lemmas.Bool.{and_parts, cases_Bool, cases_eq, eq-eqb, eqb-true, false≢true, or_cases, or_from, or_left, or_right}
-use Rattle.std.proofs.lemmas.List.{get_or_append_left, take-append-le}
-use Rattle.mat_sets.specs.Search.{some_below}
-use Rattle.mat_sets.specs.Sets.{is_member, without_one}
-use Rattle.mat_sets.proofs.Members.{is_member-append, is_member-get_or, is_member-without_one, only_member}
-use Rattle.mat_sets.proofs.Steps.{is_member-take_more}
-use Rattle.mat_laws.specs.TightPaths.{Exchanges}
-use Rattle.mat_union.specs.Moves.{can_enter, can_push}
-use Rattle.mat_union.specs.MoveSearches.{left_over, AreTaken, IsReachingTo}
-use Rattle.mat_sets.specs.Rows.{row_at}
-use Rattle.mat_sets.proofs.Truths.{and_not_gives, and_not_none}
-use Rattle.mat_sets.proofs.Search.{some_below-zero}
 use Rattle.mat_union.proofs.Taking.{without-no_longer}
 
 more_below : (i : ℕ) (test : ℕ → Bool) → some_below (suc i) test ≡ (test i || some_below i test)

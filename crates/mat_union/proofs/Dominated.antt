@@ -1,15 +1,8 @@
 -- A set that has, for each weight of a member of another set of its size, at least as many members of at least this weight, is as heavy: take
 -- a heaviest member out of both.
-use Rattle.std.proofs.Common.{◌≡◌, ℕ, suc, zero, ◌≤◌, Bool, true, false, not, ◌&&◌, eqb, List, [], ◌∷◌, length, inl, inr, refl, sym, ap, ◌∙◌, subst, arith}
-use Rattle.std.proofs.lemmas.Bool.{and_from, and_parts, both_ways, cases_Bool, eq-eqb, eqb-true, false_from_ne_true, not-true, not_from_false, or_cases, or_left, or_right}
-use Rattle.std.proofs.lemmas.Int.{ints}
+use Rattle.mat_union.proofs.Common.{◌≡◌, ℕ, suc, zero, ◌≤◌, Bool, true, false, not, ◌&&◌, eqb, List, [], ◌∷◌, length, inl, inr, refl, sym, ap, ◌∙◌, subst, arith, and_from, and_parts, both_ways, cases_Bool, eq-eqb, eqb-true, false_from_ne_true, not-true, not_from_false, or_cases, or_left, or_right}
+use Rattle.mat_union.proofs.Common.{ints, is_member, IsRising, without_one, is_below, negated, weight_sum, ◌≼◌, Weight, length-without_one, filter_whole, IsRising-filter, is_member-filter, is_member-without_one, same_members, IsRising-without_one}
 use Rattle.std.specs.List.{filter}
-use Rattle.mat_sets.specs.Sets.{is_member, IsRising, without_one}
-use Rattle.mat_sets.specs.Weights.{is_below, negated, weight_sum, ◌≼◌}
-use Rattle.mat_sets.specs.declared.weight.Weight.{Weight}
-use Rattle.mat_sets.proofs.Cardinalities.{length-without_one}
-use Rattle.mat_sets.proofs.Filters.{filter_whole, IsRising-filter}
-use Rattle.mat_sets.proofs.Members.{is_member-filter, is_member-without_one, same_members, IsRising-without_one}
 use Rattle.mat_sets.proofs.WeightOrder.{at_most_same, at_most_trans, by_below, not_below_from, not_below_gives, pairs}
 use Rattle.mat_sets.proofs.WeightSums.{weight_sum-without_one}
 

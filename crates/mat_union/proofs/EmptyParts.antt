@@ -1,14 +1,6 @@
 -- Empty parts, and one set with empty ones, with which parts begin to grow.
-use Rattle.std.proofs.Common.{◌≡◌, ℕ, zero, suc, ◌<◌, Bool, true, false, List, [], ◌∷◌, length, replicate, inl, inr, refl, sym, ap, ◌∙◌, arith}
-use Rattle.std.proofs.lemmas.Bool.{both_ways, cases_eq, cases_lt, false_from_ne_true}
-use Rattle.std.proofs.lemmas.List.{get_or-replicate, get_or_past, length-replicate}
-use Rattle.mat_sets.specs.Families.{family_union}
-use Rattle.mat_sets.specs.Sets.{is_member, IsRising}
-use Rattle.mat_sets.proofs.Families.{family_union-from, family_union-gives, IsRising-family_union}
-use Rattle.mat_sets.proofs.Members.{same_members}
-use Rattle.mat_sets.proofs.Truths.{same_truth}
-use Rattle.mat_union.specs.PartListLaws.{AreDisjoint-index}
-use Rattle.mat_union.specs.Unions.{part_at, test_at, AreMatroids, AreParts}
+use Rattle.mat_union.proofs.Common.{◌≡◌, ℕ, zero, suc, ◌<◌, Bool, true, false, List, [], ◌∷◌, length, replicate, inl, inr, refl, sym, ap, ◌∙◌, arith, both_ways, cases_eq, cases_lt, false_from_ne_true, get_or-replicate, get_or_past, length-replicate, family_union, is_member, IsRising}
+use Rattle.mat_union.proofs.Common.{family_union-from, family_union-gives, IsRising-family_union, same_members, same_truth, AreDisjoint-index, part_at, test_at, AreMatroids, AreParts}
 
 -- each of so many empty sets
 pub part_at-empty : (n i : ℕ) → part_at (replicate n []) i ≡ []

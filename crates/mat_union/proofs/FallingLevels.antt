@@ -1,13 +1,6 @@
 -- Levels are those of the distinct weights, falling, exactly where their weights are these, one by one.
-use Rattle.std.proofs.Common.{◌≡◌, ℕ, suc, ◌<◌, List, [], ◌∷◌, length, map, refl, sym, ap, ◌∙◌, subst}
-use Rattle.std.proofs.lemmas.List.{length-map}
-use Rattle.mat_sets.specs.FallingWeights.{falling_weights}
-use Rattle.mat_sets.specs.Weights.{weight_at, ◌≺◌}
-use Rattle.mat_sets.specs.declared.weight.Weight.{Weight}
-use Rattle.mat_sets.proofs.FallingWeights.{same_falling, falling_weights-Falls, falling_weights-gives, falling_weights-holds}
-use Rattle.mat_sets.proofs.FallingWeights.{Falls-at, Falls-places, IsIn, IsIn-place, place-IsIn}
-use Rattle.mat_union.specs.RightUnions.{level_at, AreFalling}
-use Rattle.mat_union.specs.declared.best.Level.{Level}
+use Rattle.mat_union.proofs.Common.{◌≡◌, ℕ, suc, ◌<◌, List, [], ◌∷◌, length, map, refl, sym, ap, ◌∙◌, subst, length-map, falling_weights, weight_at, ◌≺◌, Weight, same_falling, falling_weights-Falls, falling_weights-gives, falling_weights-holds, Falls-at, Falls-places, IsIn, IsIn-place, place-IsIn}
+use Rattle.mat_union.proofs.Common.{level_at, AreFalling, Level}
 
 -- the weights of the levels
 abbrev pub level_weights : List Level → List Weight

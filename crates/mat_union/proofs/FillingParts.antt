@@ -1,22 +1,8 @@
 -- Parts that are filled up: the elements that are in none are new, and when all of them came, each element is in a part or spanned; then the
 -- spanned elements are a cut.
-use Rattle.std.proofs.Common.{◌≡◌, ◌∙◌, ℕ, Bool, true, false, not, ◌||◌, ◌&&◌, ltb, List, [], length, refl, sym, ap, inl, inr, arith}
-use Rattle.std.proofs.lemmas.Bool.{and_from, and_parts, both_ways, cases_Bool, false_from_ne_true, false≢true, lt-ltb, ltb-true, not-true, not_from_false, or_left, or_right}
-use Rattle.mat_sets.specs.Families.{family_union}
-use Rattle.mat_sets.specs.Search.{those_below}
-use Rattle.mat_sets.specs.Sets.{all_below, is_member, IsSubset}
-use Rattle.mat_sets.proofs.Cardinalities.{length-minus-intersection}
-use Rattle.mat_sets.proofs.DisjointSets.{apart_from}
-use Rattle.mat_sets.proofs.Families.{IsRising-family_union}
-use Rattle.mat_sets.proofs.Ground.{below_member, is_member-all_below, IsRising-all_below, IsSet-nil}
-use Rattle.mat_sets.proofs.Members.{IsRising-nil}
-use Rattle.mat_sets.proofs.Search.{is_member-those_below}
-use Rattle.mat_sets.proofs.Truths.{and_all}
-use Rattle.mat_laws.proofs.RankLaws.{rank-maximal}
-use Rattle.mat_union.specs.FilledParts.{IsFilled}
-use Rattle.mat_union.specs.GrownParts.{AreDone, AreFresh, AreGrowing}
-use Rattle.mat_union.specs.PartListLaws.{parts_set, ranks_reached}
-use Rattle.mat_union.specs.Unions.{part_at, AreMatroids, AreParts}
+use Rattle.mat_union.proofs.Common.{◌≡◌, ◌∙◌, ℕ, Bool, true, false, not, ◌||◌, ◌&&◌, ltb, List, [], length, refl, sym, ap, inl, inr, arith, and_from, and_parts, both_ways, cases_Bool, false_from_ne_true, false≢true, lt-ltb, ltb-true, not-true, not_from_false, or_left, or_right, family_union}
+use Rattle.mat_union.proofs.Common.{those_below, all_below, is_member, IsSubset, length-minus-intersection, apart_from, IsRising-family_union, below_member, is_member-all_below, IsRising-all_below, IsSet-nil, IsRising-nil, is_member-those_below, and_all, rank-maximal, IsFilled, AreDone, AreFresh}
+use Rattle.mat_union.proofs.Common.{AreGrowing, parts_set, ranks_reached, part_at, AreMatroids, AreParts}
 use Rattle.mat_union.proofs.SpannedElements.{same_outside}
 
 -- with no element marked as spanned

@@ -1,28 +1,8 @@
 -- The moves along a shortest walk of the arcs that a search knows: all its elements but the last are told, so that it has no shortcut among
 -- all arcs either, and no element but the last can be added.
-use Rattle.std.proofs.Common.{Global, Vec, ◌≡◌, ℕ, suc, ◌<◌, ◌≤◌, Bool, true, false, eqb, List, [], ◌∷◌, length, get_or, take, inl, inr, refl, sym, ap, ◌∙◌, subst, arith}
-use Rattle.std.proofs.lemmas.Bool.{both_ways, cases_Bool, cases_eq, eq-eqb, eqb-true, false≢true, or_cases, or_left, or_right}
-use Rattle.std.proofs.lemmas.List.{length-map}
-use Rattle.mat_sets.specs.Families.{family_union}
-use Rattle.mat_sets.specs.Sets.{is_member}
-use Rattle.mat_sets.specs.Walks.{IsReachedSet, IsShortestWalk}
-use Rattle.mat_sets.specs.WalkSearches.{IsWalkSearch}
-use Rattle.mat_sets.specs.declared.walk_search.WalkSearch.{WalkSearch}
-use Rattle.mat_sets.specs.declared.walk_search.WalkSearch.TheVariants.{Reached, Walk}
-use Rattle.mat_sets.proofs.Ground.{below_member}
-use Rattle.mat_sets.proofs.Members.{is_member-get_or, place_of_member}
-use Rattle.mat_sets.proofs.Reach.{shortest_walk_is_chordless}
-use Rattle.mat_sets.proofs.Search.{some_below_gives}
-use Rattle.mat_laws.specs.TightPaths.{Exchanges}
-use Rattle.mat_union.specs.Unions.{part_at, AreMatroids, AreParts}
-use Rattle.mat_union.specs.Moves.{can_enter, can_push, element_at, elements, exchanges_with, place_at}
-use Rattle.mat_union.specs.MoveSearches.{element_asked, AreFoundMoves, AreMovesAt, IsReaching, IsToldTable}
-use Rattle.mat_sets.specs.Rows.{row_at}
-use Rattle.mat_union.specs.MoveWalkLaws.{element_of_list}
-use Rattle.mat_union.specs.PartListLaws.{part_set}
-use Rattle.mat_union.specs.UnionLaws.{chordless_moves, trade_gives}
-use Rattle.mat_union.specs.declared.move_search.MoveSearch.{MoveSearch}
-use Rattle.mat_union.specs.declared.moves.Move.{Move}
+use Rattle.mat_union.proofs.Common.{Global, Vec, ◌≡◌, ℕ, suc, ◌<◌, ◌≤◌, Bool, true, false, eqb, List, [], ◌∷◌, length, get_or, take, inl, inr, refl, sym, ap, ◌∙◌, subst, arith, both_ways, cases_Bool, cases_eq, eq-eqb, eqb-true, false≢true, or_cases, or_left, or_right, length-map, family_union}
+use Rattle.mat_union.proofs.Common.{is_member, IsReachedSet, IsShortestWalk, IsWalkSearch, WalkSearch, Reached, Walk, below_member, is_member-get_or, place_of_member, shortest_walk_is_chordless, some_below_gives, Exchanges, part_at, AreMatroids, AreParts, can_enter, can_push, element_at, elements}
+use Rattle.mat_union.proofs.Common.{exchanges_with, place_at, element_asked, AreFoundMoves, AreMovesAt, IsReaching, IsToldTable, row_at, element_of_list, part_set, chordless_moves, trade_gives, MoveSearch, Move}
 
 pub is_member-taken : (k : ℕ) (xs : List ℕ) (z : ℕ) → is_member z (take k xs) ≡ true → is_member z xs ≡ true
 is_member-taken (suc k) (x ∷ xs) z h = elim (or_cases (eqb z x) (is_member z (take k xs)) h) [

@@ -1,20 +1,7 @@
 -- Steps of the loops that read rows and parts.
-use Rattle.std.proofs.Common.{◌≡◌, ℕ, ◌+◌, ◌<◌, ◌≤◌, Bool, true, false, ◌||◌, eqb, List, [], ◌∷◌, ◌++◌, length, get_or, take, refl, sym, ap, ◌∙◌, inl, inr, arith, length-append}
-use Rattle.std.proofs.lemmas.Bool.{cases_eq, both_ways, false_from_ne_true}
-use Rattle.std.proofs.lemmas.List.{get_or_default, get_or_append_left}
+use Rattle.mat_union.proofs.Common.{◌≡◌, ℕ, ◌+◌, ◌<◌, ◌≤◌, Bool, true, false, ◌||◌, eqb, List, [], ◌∷◌, ◌++◌, length, get_or, take, refl, sym, ap, ◌∙◌, inl, inr, arith, length-append, cases_eq, both_ways, false_from_ne_true, get_or_default, get_or_append_left, family_union, is_member, with_one}
+use Rattle.mat_union.proofs.Common.{family_union-gives, family_union-from, is_member-with_one, some_below-more, is_member-take_more, or_commute, Exchange, row_in, part_at, can_push, exchanges_of, IsPushTable}
 use Rattle.std.proofs.Math.Seq.{get_or-append_seam}
-use Rattle.mat_sets.specs.Families.{family_union}
-use Rattle.mat_sets.specs.Sets.{is_member, with_one}
-use Rattle.mat_sets.proofs.Families.{family_union-gives, family_union-from}
-use Rattle.mat_sets.proofs.Members.{is_member-with_one}
-use Rattle.mat_sets.proofs.Search.{some_below-more}
-use Rattle.mat_sets.proofs.Steps.{is_member-take_more}
-use Rattle.mat_sets.proofs.Truths.{or_commute}
-use Rattle.mat_laws.specs.declared.exchange.Exchange.{Exchange}
-use Rattle.mat_laws.specs.TightPaths.{row_in}
-use Rattle.mat_union.specs.Unions.{part_at}
-use Rattle.mat_union.specs.Moves.{can_push, exchanges_of}
-use Rattle.mat_union.specs.MoveGraphs.{IsPushTable}
 
 pub adds_at : (rows : List (List Exchange)) (row : List Exchange) (x : Exchange) (i u : ℕ) (b : Bool) → row ≡ get_or rows i row → i < length rows → x ≡ row_in row u → x.addable ≡ b
     → (exchanges_of rows i).adds u ≡ b

@@ -1,26 +1,10 @@
 -- Growing parts. A set that each part spans is closed: from its elements nothing can be added, nor can they take the place of another; so a
 -- search may leave it out. Moves of other elements leave it spanned, and what a stuck search reached is spanned with it.
-use Rattle.std.proofs.Common.{◌≡◌, ◌⊎◌, ℕ, ◌<◌, ◌≤◌, Bool, true, false, not, ◌||◌, ◌&&◌, eqb, ltb, List, length, take, inl, inr, refl, sym, ap, ◌∙◌, arith}
-use Rattle.std.proofs.lemmas.Bool.{and_from, and_parts, both_ways, eq-eqb, eqb-true, false_from_ne_true, lt-ltb, not-true, not_from_false, or_cases, or_left, or_right, or_parts}
-use Rattle.std.proofs.lemmas.List.{take_all}
-use Rattle.mat_sets.specs.Sets.{is_member, IsRising, IsSet, intersection, with_one, without_one}
-use Rattle.mat_sets.proofs.Cardinalities.{length-with_one}
-use Rattle.mat_sets.proofs.Ground.{below_member}
-use Rattle.mat_sets.proofs.Members.{same_members, is_member-intersection, is_member-with_one, is_member-without_one, IsRising-intersection, IsRising-with_one}
-use Rattle.mat_sets.proofs.Search.{some_below_from}
-use Rattle.mat_sets.proofs.Truths.{and_neither}
-use Rattle.mat_laws.specs.Matroids.{IsMatroid}
+use Rattle.mat_union.proofs.Common.{◌≡◌, ◌⊎◌, ℕ, ◌<◌, ◌≤◌, Bool, true, false, not, ◌||◌, ◌&&◌, eqb, ltb, List, length, take, inl, inr, refl, sym, ap, ◌∙◌, arith, and_from, and_parts, both_ways, eq-eqb, eqb-true, false_from_ne_true, lt-ltb, not-true, not_from_false, or_cases, or_left, or_right}
+use Rattle.mat_union.proofs.Common.{or_parts, take_all, is_member, IsRising, IsSet, intersection, with_one, without_one, length-with_one, below_member, same_members, is_member-intersection, is_member-with_one, is_member-without_one, IsRising-intersection, IsRising-with_one, some_below_from}
+use Rattle.mat_union.proofs.Common.{and_neither, IsMatroid, Exchanges, rank_is, part_at, test_at, AreMatroids, AreGrowing, can_push, exchanges_with, IsReaching, ArePlaced, law_at, part_set, MoveSearch}
 use Rattle.mat_laws.specs.Ranks.{rank}
-use Rattle.mat_laws.specs.TightPaths.{Exchanges}
 use Rattle.mat_laws.proofs.Cuts.{rank-in_reach}
-use Rattle.mat_laws.proofs.RankLaws.{rank_is}
-use Rattle.mat_union.specs.Unions.{part_at, test_at, AreMatroids}
-use Rattle.mat_union.specs.GrownParts.{AreGrowing}
-use Rattle.mat_union.specs.Moves.{can_push, exchanges_with}
-use Rattle.mat_union.specs.MoveSearches.{IsReaching}
-use Rattle.mat_union.specs.Placings.{ArePlaced}
-use Rattle.mat_union.specs.PartListLaws.{law_at, part_set}
-use Rattle.mat_union.specs.declared.move_search.MoveSearch.{MoveSearch}
 
 -- ---- a set that an independent set spans
 

@@ -1,20 +1,7 @@
 -- One more element is done: it came into the parts, or it and all that it reaches are spanned.
-use Rattle.std.proofs.Common.{◌≡◌, ℕ, ◌≤◌, Bool, true, not, ◌||◌, ◌&&◌, eqb, List, length, inl, inr, refl, sym, ap, ◌∙◌}
-use Rattle.std.proofs.lemmas.Bool.{eq-eqb, eqb-true, or_cases, or_left, or_right}
-use Rattle.mat_sets.specs.Families.{family_union}
-use Rattle.mat_sets.specs.Sets.{is_member, IsRising, IsSet, IsSubset}
-use Rattle.mat_sets.proofs.Families.{family_union-from}
-use Rattle.mat_sets.proofs.Ground.{below_member, AllBelow-from_members}
-use Rattle.mat_sets.proofs.Members.{is_member-with_one}
-use Rattle.mat_sets.proofs.Search.{some_below_gives}
-use Rattle.mat_union.specs.Unions.{AreMatroids}
-use Rattle.mat_union.specs.GrownParts.{AreDone, AreGrowing}
-use Rattle.mat_union.specs.Moves.{exchanges_with}
-use Rattle.mat_union.specs.MoveSearches.{IsReaching}
-use Rattle.mat_union.specs.Placings.{ArePlaced}
-use Rattle.mat_union.specs.UnionLaws.{trade_gives}
+use Rattle.mat_union.proofs.Common.{◌≡◌, ℕ, ◌≤◌, Bool, true, not, ◌||◌, ◌&&◌, eqb, List, length, inl, inr, refl, sym, ap, ◌∙◌, eq-eqb, eqb-true, or_cases, or_left, or_right, family_union, is_member, IsRising, IsSet, IsSubset, family_union-from, below_member, AllBelow-from_members}
+use Rattle.mat_union.proofs.Common.{is_member-with_one, some_below_gives, AreMatroids, AreDone, AreGrowing, exchanges_with, IsReaching, ArePlaced, trade_gives, MoveSearch}
 use Rattle.mat_union.proofs.GrowingParts.{spanned_grows}
-use Rattle.mat_union.specs.declared.move_search.MoveSearch.{MoveSearch}
 
 -- ---- it came into the parts
 

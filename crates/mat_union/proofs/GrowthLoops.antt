@@ -1,14 +1,6 @@
 -- The loop that adds elements one after the other: what is done is what was done before and those that came; the others are still new.
-use Rattle.std.proofs.Common.{◌≡◌, ℕ, ◌+◌, ◌<◌, ◌≤◌, Bool, true, false, not, ◌||◌, eqb, ltb, List, length, get_or, take, refl, sym, ap, ◌∙◌}
-use Rattle.std.proofs.lemmas.Bool.{and_from, both_ways, false_from_ne_true, lt-ltb, not_from_false, or_from, or_left, or_right, or_parts}
-use Rattle.std.proofs.lemmas.List.{take_all}
-use Rattle.mat_sets.specs.Families.{family_union}
-use Rattle.mat_sets.specs.Sets.{is_member, IsRising, IsSubset}
-use Rattle.mat_sets.proofs.Members.{is_member-get_or}
-use Rattle.mat_sets.proofs.Steps.{is_member-take_more, is_member-take_next}
-use Rattle.mat_sets.proofs.Subsets.{IsSubset-trans}
-use Rattle.mat_sets.proofs.Truths.{and_not_gives, or_none, or_assoc}
-use Rattle.mat_union.specs.GrownParts.{AreDone, AreFresh, AreGrowing}
+use Rattle.mat_union.proofs.Common.{◌≡◌, ℕ, ◌+◌, ◌<◌, ◌≤◌, Bool, true, false, not, ◌||◌, eqb, ltb, List, length, get_or, take, refl, sym, ap, ◌∙◌, and_from, both_ways, false_from_ne_true, lt-ltb, not_from_false, or_from, or_left, or_right, or_parts, take_all, family_union, is_member, IsRising}
+use Rattle.mat_union.proofs.Common.{IsSubset, is_member-get_or, is_member-take_more, is_member-take_next, IsSubset-trans, and_not_gives, or_none, or_assoc, AreDone, AreFresh, AreGrowing}
 
 pub done_ext : {n : ℕ} {parts : List (List ℕ)} {spanned : List ℕ} (done other : ℕ → Bool) → ((v : ℕ) → done v ≡ other v) → AreDone n done parts spanned → AreDone n other parts spanned
 done_ext done other same d = record {

@@ -1,32 +1,12 @@
 -- One level more: its elements come into the parts or are spanned, and then the spanned elements are a cut of the level. The cuts of earlier levels
 -- stay right, since the parts lose no element and no parts hold more than a cut allows.
-use Rattle.std.proofs.Common.{◌≡◌, ℕ, ◌+◌, ◌<◌, ◌≤◌, Bool, true, false, ◌||◌, ◌&&◌, ltb, List, [], ◌∷◌, ◌++◌, length, take, inl, inr, refl, sym, ap, ◌∙◌, subst, arith, length-append}
+use Rattle.mat_union.proofs.Common.{◌≡◌, ℕ, ◌+◌, ◌<◌, ◌≤◌, Bool, true, false, ◌||◌, ◌&&◌, ltb, List, [], ◌∷◌, ◌++◌, length, take, inl, inr, refl, sym, ap, ◌∙◌, subst, arith, length-append, and_from, and_parts, both_ways, cases_eq, cases_lt, false_from_ne_true, lt-ltb, ltb-true, ints}
+use Rattle.mat_union.proofs.Common.{get_or_append_left, map-append, take_all, take_more, falling_weights, heavy, family_union, some_below, those_below, is_member, IsRising, IsSet, IsSubset, intersection, is_same, weight_at, zero_weight, ◌≼◌, Weight, length-minus-intersection, intersection-subset}
+use Rattle.mat_union.proofs.Common.{Falls-at, IsIn-place, falling_weights-Falls, falling_weights-holds, place-IsIn, IsRising-family_union, below_member, is_member-intersection, IsRising-intersection, is_member-those_below, IsSet-those_below, some_below-zero, some_below_from, some_below_gives}
+use Rattle.mat_union.proofs.Common.{length-subset, or_commute, same_truth, AreDone, AreFresh, AreGrowing, level_at, IsLevelCut, IsRightUnion, AreMatroids, AreParts, cut_bounds, parts_set, ranks_reached, Level}
 use Rattle.std.proofs.Math.Numerals.{add-one}
 use Rattle.std.proofs.Math.Seq.{get_or-append_seam}
-use Rattle.std.proofs.lemmas.Bool.{and_from, and_parts, both_ways, cases_eq, cases_lt, false_from_ne_true, lt-ltb, ltb-true}
-use Rattle.std.proofs.lemmas.Int.{ints}
-use Rattle.std.proofs.lemmas.List.{get_or_append_left, map-append, take_all, take_more}
-use Rattle.mat_sets.specs.FallingWeights.{falling_weights, heavy}
-use Rattle.mat_sets.specs.Families.{family_union}
-use Rattle.mat_sets.specs.Search.{some_below, those_below}
-use Rattle.mat_sets.specs.Sets.{is_member, IsRising, IsSet, IsSubset, intersection}
-use Rattle.mat_sets.specs.Weights.{is_same, weight_at, zero_weight, ◌≼◌}
-use Rattle.mat_sets.specs.declared.weight.Weight.{Weight}
-use Rattle.mat_sets.proofs.Cardinalities.{length-minus-intersection}
-use Rattle.mat_sets.proofs.Equalities.{intersection-subset}
-use Rattle.mat_sets.proofs.FallingWeights.{Falls-at, IsIn-place, falling_weights-Falls, falling_weights-holds, place-IsIn}
-use Rattle.mat_sets.proofs.Families.{IsRising-family_union}
-use Rattle.mat_sets.proofs.Ground.{below_member}
-use Rattle.mat_sets.proofs.Members.{is_member-intersection, IsRising-intersection}
-use Rattle.mat_sets.proofs.Search.{is_member-those_below, IsSet-those_below, some_below-zero, some_below_from, some_below_gives}
-use Rattle.mat_sets.proofs.Subsets.{length-subset}
-use Rattle.mat_sets.proofs.Truths.{or_commute, same_truth}
 use Rattle.mat_sets.proofs.WeightOrder.{at_most_not, at_most_same, same_from, same_gives}
-use Rattle.mat_union.specs.GrownParts.{AreDone, AreFresh, AreGrowing}
-use Rattle.mat_union.specs.RightUnions.{level_at, IsLevelCut, IsRightUnion}
-use Rattle.mat_union.specs.Unions.{AreMatroids, AreParts}
-use Rattle.mat_union.specs.PartListLaws.{cut_bounds, parts_set, ranks_reached}
-use Rattle.mat_union.specs.declared.best.Level.{Level}
 use Rattle.mat_union.proofs.Dominated.{weighs, weighs_from, weighs_gives}
 use Rattle.mat_union.proofs.FallingLevels.{are_falling, level_weights}
 use Rattle.mat_union.proofs.SpannedElements.{same_outside}

@@ -1,19 +1,8 @@
 -- The cuts of the levels show that parts are best: for each weight no parts hold more elements of at least this weight; then those that hold as
 -- many elements weigh at most as much.
-use Rattle.std.proofs.Common.{◌≡◌, ℕ, suc, ◌<◌, ◌≤◌, Bool, true, false, cond, List, [], ◌∷◌, length, refl, ap, subst, arith}
+use Rattle.mat_union.proofs.Common.{◌≡◌, ℕ, suc, ◌<◌, ◌≤◌, Bool, true, false, cond, List, [], ◌∷◌, length, refl, ap, subst, arith, heavy, family_union, weight_at, Weight, IsRising-family_union, below_member, heavy_members, IsSet-those_below, AreMatroids, AreParts, cut_bounds, parts_set, level_at}
+use Rattle.mat_union.proofs.Common.{IsBestUnion, IsRightUnion, Level}
 use Rattle.std.specs.List.{filter}
-use Rattle.mat_sets.specs.FallingWeights.{heavy}
-use Rattle.mat_sets.specs.Families.{family_union}
-use Rattle.mat_sets.specs.Weights.{weight_at}
-use Rattle.mat_sets.specs.declared.weight.Weight.{Weight}
-use Rattle.mat_sets.proofs.Families.{IsRising-family_union}
-use Rattle.mat_sets.proofs.Ground.{below_member}
-use Rattle.mat_sets.proofs.FallingWeights.{heavy_members}
-use Rattle.mat_sets.proofs.Search.{IsSet-those_below}
-use Rattle.mat_union.specs.Unions.{AreMatroids, AreParts}
-use Rattle.mat_union.specs.PartListLaws.{cut_bounds, parts_set}
-use Rattle.mat_union.specs.RightUnions.{level_at, IsBestUnion, IsRightUnion}
-use Rattle.mat_union.specs.declared.best.Level.{Level}
 use Rattle.mat_union.proofs.Dominated.{dominated, lightest_of, weighs}
 
 module _ {n : ℕ} {tests : List (List ℕ → Bool)} (laws : AreMatroids n tests) (w : List Weight) (long : length w ≡ n) (parts : List (List ℕ)) (levels : List Level) (r : IsRightUnion n tests w parts levels) where

@@ -1,3 +1,4 @@
+pub mod Common
 pub mod GraphSteps
 pub mod WalkMoves
 pub mod MovedSets

@@ -1,16 +1,8 @@
 -- Moves made part by part: a part that one of them enters or leaves becomes the one after all of them, and another is the same after them.
-use Rattle.std.proofs.Common.{◌≡◌, ℕ, ◌+◌, ◌<◌, ◌≤◌, Bool, true, false, not, ◌||◌, ◌&&◌, eqb, List, [], length, get_or, set, inl, inr, refl, sym, ap, ◌∙◌, subst, arith}
+use Rattle.mat_union.proofs.Common.{◌≡◌, ℕ, ◌+◌, ◌<◌, ◌≤◌, Bool, true, false, not, ◌||◌, ◌&&◌, eqb, List, [], length, get_or, set, inl, inr, refl, sym, ap, ◌∙◌, subst, arith, both_ways, cases_eq, eq-eqb, false_from_ne_true, or_left, or_right, get_or-set_other, get_or-set_same, length-map}
+use Rattle.mat_union.proofs.Common.{length-set, is_member, minus, union, IsRising, same_members, is_member-minus, is_member-union, place_of_member, IsRising-minus, IsRising-union, some_below_none, AreKept, all_moved, element_at, elements, entering, is_entered_or_left, moved, place_at}
+use Rattle.mat_union.proofs.Common.{element_of_list, entering_gives, part_at, Move}
 use Rattle.std.proofs.Math.Seq.{ext_get_or}
-use Rattle.std.proofs.lemmas.Bool.{both_ways, cases_eq, eq-eqb, false_from_ne_true, or_left, or_right}
-use Rattle.std.proofs.lemmas.List.{get_or-set_other, get_or-set_same, length-map, length-set}
-use Rattle.mat_sets.specs.Sets.{is_member, minus, union, IsRising}
-use Rattle.mat_sets.proofs.Members.{same_members, is_member-minus, is_member-union, place_of_member, IsRising-minus, IsRising-union}
-use Rattle.mat_sets.proofs.Search.{some_below_none}
-use Rattle.mat_union.specs.GrownParts.{AreKept}
-use Rattle.mat_union.specs.Moves.{all_moved, element_at, elements, entering, is_entered_or_left, moved, place_at}
-use Rattle.mat_union.specs.MoveWalkLaws.{element_of_list, entering_gives}
-use Rattle.mat_union.specs.Unions.{part_at}
-use Rattle.mat_union.specs.declared.moves.Move.{Move}
 use Rattle.mat_union.proofs.MovedSets.{all_moved_at, length-all_moved}
 use Rattle.mat_union.proofs.SoundMatroids.{AreKeptAnew}
 

@@ -1,17 +1,8 @@
 -- Steps of the loops that make the parts after moves.
-use Rattle.std.proofs.Common.{◌≡◌, ℕ, ◌+◌, ◌<◌, Bool, true, false, not, ◌||◌, ◌&&◌, cond, eqb, List, [], ◌∷◌, ◌++◌, length, get_or, map, take, refl, sym, ap, ◌∙◌, inl, inr, arith}
-use Rattle.std.proofs.lemmas.Bool.{cases_Bool}
-use Rattle.std.proofs.lemmas.List.{get_or-map, length-map, map_more, map-append}
-use Rattle.std.proofs.lemmas.List.Elements.{filter_more}
+use Rattle.mat_union.proofs.Common.{◌≡◌, ℕ, ◌+◌, ◌<◌, Bool, true, false, not, ◌||◌, ◌&&◌, cond, eqb, List, [], ◌∷◌, ◌++◌, length, get_or, map, take, refl, sym, ap, ◌∙◌, inl, inr, arith, cases_Bool, get_or-map, length-map, map_more, map-append, filter_more, all_below, is_member, minus, union}
+use Rattle.mat_union.proofs.Common.{with_one, without_one, IsRising, same_members, is_member-minus, is_member-union, is_member-with_one, is_member-without_one, IsRising-minus, IsRising-union, IsRising-with_one, IsRising-without_one, is_member-push, get_or-all_below, length-all_below, and_neither}
+use Rattle.mat_union.proofs.Common.{all_moved, elements, entering, moved, no_move, part_at, Move}
 use Rattle.std.specs.List.{filter}
-use Rattle.mat_sets.specs.Sets.{all_below, is_member, minus, union, with_one, without_one, IsRising}
-use Rattle.mat_sets.proofs.Members.{same_members, is_member-minus, is_member-union, is_member-with_one, is_member-without_one, IsRising-minus, IsRising-union, IsRising-with_one, IsRising-without_one}
-use Rattle.mat_sets.proofs.ListParts.{is_member-push}
-use Rattle.mat_sets.proofs.Ground.{get_or-all_below, length-all_below}
-use Rattle.mat_sets.proofs.Truths.{and_neither}
-use Rattle.mat_union.specs.Moves.{all_moved, elements, entering, moved, no_move}
-use Rattle.mat_union.specs.Unions.{part_at}
-use Rattle.mat_union.specs.declared.moves.Move.{Move}
 
 pub elements-more : (moves : List Move) (i : ℕ) → i < length moves → elements (take (i + 1) moves) ≡ elements (take i moves) ++ (get_or moves i no_move).element ∷ []
 elements-more moves i l = map_more (λ v. v.element) moves i no_move l

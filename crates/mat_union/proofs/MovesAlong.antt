@@ -1,16 +1,7 @@
 -- The loop that makes the moves along a walk.
-use Rattle.std.proofs.Common.{◌≡◌, ℕ, suc, ◌+◌, ◌<◌, true, List, [], ◌∷◌, ◌++◌, length, get_or, inl, inr, refl, sym, ap, ◌∙◌, arith, length-append}
+use Rattle.mat_union.proofs.Common.{◌≡◌, ℕ, suc, ◌+◌, ◌<◌, true, List, [], ◌∷◌, ◌++◌, length, get_or, inl, inr, refl, sym, ap, ◌∙◌, arith, length-append, both_ways, cases_eq, disjoint-apart, get_or_append_left, AreDisjoint, is_member, element_at, no_move, place_at, AreMovesAt, part_at, Move}
 use Rattle.std.proofs.Math.Numerals.{add-one}
 use Rattle.std.proofs.Math.Seq.{get_or-append_seam}
-use Rattle.std.proofs.lemmas.Bool.{both_ways, cases_eq}
-use Rattle.mat_sets.proofs.Families.{disjoint-apart}
-use Rattle.std.proofs.lemmas.List.{get_or_append_left}
-use Rattle.mat_sets.specs.Families.{AreDisjoint}
-use Rattle.mat_sets.specs.Sets.{is_member}
-use Rattle.mat_union.specs.Moves.{element_at, no_move, place_at}
-use Rattle.mat_union.specs.MoveSearches.{AreMovesAt}
-use Rattle.mat_union.specs.Unions.{part_at}
-use Rattle.mat_union.specs.declared.moves.Move.{Move}
 
 -- the first k moves
 pub record AreMovesSo (parts : List (List ℕ)) (walk : List ℕ) (k : ℕ) (moves : List Move) : Type 0 where

@@ -1,22 +1,9 @@
 -- Parts of a set: greedy ones, into which the other members come one after the other. Where one cannot come, the set has no parts.
-use Rattle.std.proofs.Common.{None, Some, Option, map, ◌≡◌, ℕ, ◌+◌, ◌<◌, ◌≤◌, Bool, true, false, not, ◌||◌, eqb, List, [], ◌∷◌, ◌++◌, length, get_or, take, inl, inr, refl, sym, ap, ◌∙◌, subst, arith, length-append}
+use Rattle.mat_union.proofs.Common.{None, Some, Option, map, ◌≡◌, ℕ, ◌+◌, ◌<◌, ◌≤◌, Bool, true, false, not, ◌||◌, eqb, List, [], ◌∷◌, ◌++◌, length, get_or, take, inl, inr, refl, sym, ap, ◌∙◌, subst, arith, length-append, MatchOption, and_parts, both_ways, cases_eq, eqb-true, false_from_ne_true}
+use Rattle.mat_union.proofs.Common.{false≢true, not-true, or_cases, get_or_append_left, take_all, family_union, is_member, AllBelow, IsRising, IsSubset, minus, union, with_one, family_union-gives, IsRising-family_union, is_member-get_or, is_member-minus, is_member-union, is_member-with_one}
+use Rattle.mat_union.proofs.Common.{IsRising-with_one, is_member-take_more, subsets_equal, IsSubset-refl, AllBelow-subset, IsMaximal, AreKeptParts, parts_pass, AreDisjoint-index, union_laws, part_at, test_at, union_test, AreMatroids, AreParts}
 use Rattle.std.specs.Option.{is_some}
-use Rattle.std.specs.Prelude.{MatchOption}
 use Rattle.std.proofs.Math.Seq.{get_or-append_seam}
-use Rattle.std.proofs.lemmas.Bool.{and_parts, both_ways, cases_eq, eqb-true, false_from_ne_true, false≢true, not-true, or_cases}
-use Rattle.std.proofs.lemmas.List.{get_or_append_left, take_all}
-use Rattle.mat_sets.specs.Families.{family_union}
-use Rattle.mat_sets.specs.Sets.{is_member, AllBelow, IsRising, IsSubset, minus, union, with_one}
-use Rattle.mat_sets.proofs.Families.{family_union-gives, IsRising-family_union}
-use Rattle.mat_sets.proofs.Members.{is_member-get_or, is_member-minus, is_member-union, is_member-with_one, IsRising-with_one}
-use Rattle.mat_sets.proofs.Steps.{is_member-take_more}
-use Rattle.mat_sets.proofs.Subsets.{subsets_equal, IsSubset-refl}
-use Rattle.mat_sets.proofs.Ground.{AllBelow-subset}
-use Rattle.mat_laws.specs.Matroids.{IsMaximal}
-use Rattle.mat_union.specs.GrownParts.{AreKeptParts}
-use Rattle.mat_union.specs.PartListLaws.{parts_pass, AreDisjoint-index}
-use Rattle.mat_union.specs.UnionLaws.{union_laws}
-use Rattle.mat_union.specs.Unions.{part_at, test_at, union_test, AreMatroids, AreParts}
 
 -- ---- greedy parts
 

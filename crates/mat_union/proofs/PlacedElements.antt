@@ -1,22 +1,10 @@
 -- Moves along a path bring their first element into the parts, and no element moves that the search did not reach.
-use Rattle.std.proofs.Common.{Global, Vec, None, Some, Option, ◌≡◌, ℕ, ◌<◌, Bool, true, false, not, ◌||◌, ◌&&◌, eqb, List, [], length, refl, sym, ap, ◌∙◌, subst, arith}
-use Rattle.std.specs.Prelude.{MatchOption}
+use Rattle.mat_union.proofs.Common.{Global, Vec, None, Some, Option, ◌≡◌, ℕ, ◌<◌, Bool, true, false, not, ◌||◌, ◌&&◌, eqb, List, [], length, refl, sym, ap, ◌∙◌, subst, arith, MatchOption, both_ways, false_from_ne_true, false≢true, length-map, family_union, is_member, minus, with_one}
+use Rattle.mat_union.proofs.Common.{is_member-get_or, is_member-minus, is_member-union, IsEnded, all_moved, elements, entering, exchanges_with, AreMoved, AreFoundMoves, IsQuestion, IsReaching, element_of_list, entering_gives, ArePlaced, IsPlaceSearch, IsStuckSearch, part_at, AreMatroids, AreParts}
+use Rattle.mat_union.proofs.Common.{MoveSearch, Move}
 use Rattle.std.proofs.Math.Seq.{ext_get_or}
-use Rattle.std.proofs.lemmas.Bool.{both_ways, false_from_ne_true, false≢true}
-use Rattle.std.proofs.lemmas.List.{length-map}
-use Rattle.mat_sets.specs.Families.{family_union}
-use Rattle.mat_sets.specs.Sets.{is_member, minus, with_one}
-use Rattle.mat_sets.proofs.Members.{is_member-get_or, is_member-minus, is_member-union}
-use Rattle.mat_union.specs.EndedSearches.{IsEnded}
-use Rattle.mat_union.specs.Moves.{all_moved, elements, entering, exchanges_with, AreMoved}
-use Rattle.mat_union.specs.MoveSearches.{AreFoundMoves, IsQuestion, IsReaching}
-use Rattle.mat_union.specs.MoveWalkLaws.{element_of_list, entering_gives}
-use Rattle.mat_union.specs.Placings.{ArePlaced, IsPlaceSearch, IsStuckSearch}
-use Rattle.mat_union.specs.Unions.{part_at, AreMatroids, AreParts}
 use Rattle.mat_union.specs.declared.ended.PlaceSearch.{PlaceSearch}
 use Rattle.mat_union.specs.declared.ended.PlaceSearch.TheVariants.{Placed}
-use Rattle.mat_union.specs.declared.move_search.MoveSearch.{MoveSearch}
-use Rattle.mat_union.specs.declared.moves.Move.{Move}
 use Rattle.mat_union.proofs.MovedSets.{all_moved_at, length-all_moved}
 
 pub entering_elements : (moves : List Move) (q z : ℕ) → is_member z (entering moves q) ≡ true → is_member z (elements moves) ≡ true

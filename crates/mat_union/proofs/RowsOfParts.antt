@@ -1,14 +1,6 @@
 -- Where each list has the rows of the elements of within at its part, it tells the exchanges of these elements: a search for moves, which
 -- stays within, finds what it would find among all exchanges.
-use Rattle.std.proofs.Common.{ℕ, Bool, List, length, ap, ◌∙◌, arith}
-use Rattle.std.proofs.lemmas.Bool.{and_parts}
-use Rattle.mat_sets.specs.Sets.{is_member}
-use Rattle.mat_sets.proofs.Families.{family_union-from}
-use Rattle.mat_laws.specs.declared.exchange.Exchange.{Exchange}
-use Rattle.mat_laws.proofs.Rows.{row_of-adds, row_of-trades}
-use Rattle.mat_union.specs.Unions.{part_at, test_at}
-use Rattle.mat_union.specs.Moves.{exchanges_of, exchanges_with, is_free}
-use Rattle.mat_union.specs.MoveGraphs.{AreMovable, AreRowsAt}
+use Rattle.mat_union.proofs.Common.{ℕ, Bool, List, length, ap, ◌∙◌, arith, and_parts, is_member, family_union-from, Exchange, row_of-adds, row_of-trades, part_at, test_at, exchanges_of, exchanges_with, is_free, AreMovable, AreRowsAt}
 use Rattle.mat_union.proofs.Agreement.{AgreeWithin}
 
 pub rows_agree : {n : ℕ} {tests : List (List ℕ → Bool)} {parts : List (List ℕ)} {rows : List (List Exchange)} {within : List ℕ}

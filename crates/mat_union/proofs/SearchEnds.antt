@@ -1,27 +1,7 @@
 -- The exchanges of an element at parts of a set, by a search from it among all elements that is at its end. What it reached is the reached
 -- set: where it can enter, the element can be added; and where it is stuck, the members that it reached are those whose place it takes.
-use Rattle.std.proofs.Common.{◌≡◌, ℕ, ◌<◌, ◌≤◌, Bool, true, false, eqb, List, length, inl, inr, refl, sym, ap, ◌∙◌}
-use Rattle.std.proofs.lemmas.Bool.{cases_Bool, eq-eqb, eqb-true, lt-ltb}
-use Rattle.std.proofs.lemmas.List.{take_all}
-use Rattle.mat_sets.specs.Families.{family_union}
-use Rattle.mat_sets.specs.Sets.{all_below, is_member, intersection, with_one}
-use Rattle.mat_sets.specs.Walks.{IsReachedSet}
-use Rattle.mat_sets.proofs.Ground.{below_member, is_member-all_below}
-use Rattle.mat_sets.proofs.Members.{is_member-get_or}
-use Rattle.mat_sets.proofs.Reach.{reached_by_induction, reached_set_exists}
-use Rattle.mat_sets.proofs.Search.{some_below_from, some_below_gives}
-use Rattle.mat_sets.proofs.Truths.{same_truth}
-use Rattle.mat_laws.specs.declared.exchange.Exchange.{Exchange}
-use Rattle.mat_laws.specs.Exchanges.{row_of}
-use Rattle.mat_laws.specs.TightPaths.{Exchanges}
-use Rattle.mat_laws.proofs.Rows.{exchanged}
-use Rattle.mat_union.specs.EndedSearches.{IsEnded}
-use Rattle.mat_union.specs.Moves.{can_push, exchanges_with}
-use Rattle.mat_union.specs.MoveSearches.{element_asked}
-use Rattle.mat_union.specs.PartListLaws.{part_set}
-use Rattle.mat_union.specs.UnionLaws.{exchanges_reached, none_enters, trade_gives}
-use Rattle.mat_union.specs.Unions.{union_test}
-use Rattle.mat_union.specs.declared.move_search.MoveSearch.{MoveSearch}
+use Rattle.mat_union.proofs.Common.{◌≡◌, ℕ, ◌<◌, ◌≤◌, Bool, true, false, eqb, List, length, inl, inr, refl, sym, ap, ◌∙◌, cases_Bool, eq-eqb, eqb-true, lt-ltb, take_all, family_union, all_below, is_member, intersection, with_one, IsReachedSet, below_member, is_member-all_below, is_member-get_or}
+use Rattle.mat_union.proofs.Common.{reached_by_induction, reached_set_exists, some_below_from, some_below_gives, same_truth, Exchange, row_of, Exchanges, exchanged, IsEnded, can_push, exchanges_with, element_asked, part_set, exchanges_reached, none_enters, trade_gives, union_test, MoveSearch}
 use Rattle.mat_union.proofs.StuckParts.{stuck_refuses}
 use Rattle.mat_union.proofs.UnionRows.{added_row, refused_row}
 

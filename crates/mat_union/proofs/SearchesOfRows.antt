@@ -1,21 +1,9 @@
 -- What a search for moves among right rows shows: moves that keep the parts independent, a cut, or the exchanges of an element.
-use Rattle.std.proofs.Common.{◌≡◌, ℕ, ◌+◌, Bool, false, not, List, length, refl, sym, subst, ◌∙◌}
-use Rattle.std.proofs.lemmas.Bool.{and_parts, eq-eqb, not-true, or_left}
-use Rattle.mat_sets.specs.Sets.{is_member, minus, with_one}
-use Rattle.mat_sets.specs.Families.{family_union}
-use Rattle.mat_sets.proofs.Ground.{below_member}
-use Rattle.mat_sets.proofs.Members.{is_member-with_one}
-use Rattle.mat_laws.specs.declared.exchange.Exchange.{Exchange}
-use Rattle.mat_laws.specs.Exchanges.{row_of}
-use Rattle.mat_union.specs.Unions.{AreMatroids, AreParts, ranks_sum, union_test}
-use Rattle.mat_union.specs.MoveGraphs.{AreMovable, AreRowsAt}
-use Rattle.mat_union.specs.Moves.{exchanges_of, exchanges_with, is_free, row_found, AreMoved, IsMoves, IsShortestMovePath, IsStuck}
-use Rattle.mat_union.specs.UnionLaws.{moves_keep, stuck_cut}
+use Rattle.mat_union.proofs.Common.{◌≡◌, ℕ, ◌+◌, Bool, false, not, List, length, refl, sym, subst, ◌∙◌, and_parts, eq-eqb, not-true, or_left, is_member, minus, with_one, family_union, below_member, is_member-with_one, Exchange, row_of, AreMatroids, AreParts, ranks_sum, union_test, AreMovable}
+use Rattle.mat_union.proofs.Common.{AreRowsAt, exchanges_of, exchanges_with, is_free, row_found, AreMoved, IsMoves, IsShortestMovePath, IsStuck, moves_keep, stuck_cut, Move, Moves}
 use Rattle.mat_union.proofs.Agreement.{same_ends, same_shortest, same_stuck}
 use Rattle.mat_union.proofs.RowsOfParts.{rows_agree}
 use Rattle.mat_union.proofs.UnionRows.{search_row}
-use Rattle.mat_union.specs.declared.moves.Move.{Move}
-use Rattle.mat_union.specs.declared.moves.Moves.{Moves}
 
 module _ {n : ℕ} {tests : List (List ℕ → Bool)} {parts : List (List ℕ)} (laws : AreMatroids n tests) (are : AreParts tests parts) where
   module _ {rows : List (List Exchange)} {within : List ℕ} (movable : AreMovable n rows parts within) (at : AreRowsAt tests parts within rows) where

@@ -1,13 +1,7 @@
 -- A list of matroids by its places: each is sound, has its test and its law, and keeps what is right for its part.
-use Rattle.std.proofs.Common.{◌≡◌, ℕ, ◌+◌, ◌<◌, ◌≤◌, Bool, true, false, List, [], ◌∷◌, ◌++◌, length, get_or, map, set, inl, inr, refl, sym, ap, ◌∙◌, subst, arith, length-append}
+use Rattle.mat_union.proofs.Common.{◌≡◌, ℕ, ◌+◌, ◌<◌, ◌≤◌, Bool, true, false, List, [], ◌∷◌, ◌++◌, length, get_or, map, set, inl, inr, refl, sym, ap, ◌∙◌, subst, arith, length-append, cases_eq, get_or-map, get_or-set_other, get_or-set_same, get_or_append_left, get_or_default, length-map, length-set}
+use Rattle.mat_union.proofs.Common.{All-get_or, IsMatroid, AreKept, AreSound, part_at, test_at, AreMatroids, AreParts, common_size, AreJoined}
 use Rattle.std.proofs.Math.Seq.{get_or-append_seam}
-use Rattle.std.proofs.lemmas.Bool.{cases_eq}
-use Rattle.std.proofs.lemmas.List.{get_or-map, get_or-set_other, get_or-set_same, get_or_append_left, get_or_default, length-map, length-set}
-use Rattle.std.proofs.lemmas.List.Elements.{All-get_or}
-use Rattle.mat_laws.specs.Matroids.{IsMatroid}
-use Rattle.mat_union.specs.GrownParts.{AreKept, AreSound}
-use Rattle.mat_union.specs.Unions.{part_at, test_at, AreMatroids, AreParts}
-use Rattle.mat_union.specs.UnionsOf.{common_size, AreJoined}
 
 -- a slice of the joined matroids has sound ones on the number of elements that is told
 pub sound_slice : {M : Type 0} (size : M → ℕ) (sound : M → Type 0) {slice matroids : List M} {n : ℕ} → slice ≡ matroids → n ≡ common_size size matroids

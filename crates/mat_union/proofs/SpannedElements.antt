@@ -1,10 +1,6 @@
 -- Elements come among the spanned ones, and a loop takes them out of the unspanned ones.
-use Rattle.std.proofs.Common.{◌≡◌, ℕ, ◌+◌, ◌<◌, ◌≤◌, arith, Bool, true, false, not, ◌||◌, ◌&&◌, eqb, List, [], ◌∷◌, length, get_or, take, refl, sym, ap, ◌∙◌}
-use Rattle.std.proofs.lemmas.Bool.{false≢true}
-use Rattle.mat_sets.specs.Sets.{is_member, minus, union, with_one, without_one, IsRising, IsSubset}
-use Rattle.mat_sets.proofs.Members.{is_member-minus, is_member-union, is_member-with_one, is_member-without_one, same_members, IsRising-minus}
-use Rattle.mat_sets.proofs.Steps.{is_member-take_more}
-use Rattle.mat_sets.proofs.Truths.{and_neither, or_none}
+use Rattle.mat_union.proofs.Common.{◌≡◌, ℕ, ◌+◌, ◌<◌, ◌≤◌, arith, Bool, true, false, not, ◌||◌, ◌&&◌, eqb, List, [], ◌∷◌, length, get_or, take, refl, sym, ap, ◌∙◌, false≢true, is_member, minus, union, with_one, without_one, IsRising, IsSubset, is_member-minus, is_member-union, is_member-with_one}
+use Rattle.mat_union.proofs.Common.{is_member-without_one, same_members, IsRising-minus, is_member-take_more, and_neither, or_none}
 
 pub unspanned_none : (b : Bool) (v : ℕ) (xs : List ℕ) → b ≡ (b && not (is_member v (take 0 xs)))
 unspanned_none true v xs = refl

@@ -1,23 +1,8 @@
 -- Where a search among all elements is stuck, its start cannot be added to the set that the parts make up: what it reached is spanned by the
 -- parts, and would have to hold one element more.
-use Rattle.std.proofs.Common.{◌≡◌, ℕ, ◌<◌, ◌≤◌, Bool, true, false, ◌||◌, ◌&&◌, eqb, ltb, List, [], length, get_or, refl, sym, ap, ◌∙◌, subst, arith}
-use Rattle.std.proofs.lemmas.Bool.{eqb-true, false_from_ne_true, false≢true}
-use Rattle.mat_sets.specs.Families.{family_union}
-use Rattle.mat_sets.specs.Sets.{all_below, is_member, AllBelow, intersection, minus, union, with_one}
-use Rattle.mat_sets.proofs.Cardinalities.{length-with_one}
-use Rattle.mat_sets.proofs.Families.{IsRising-family_union}
-use Rattle.mat_sets.proofs.Filters.{filter_none}
-use Rattle.mat_sets.proofs.Ground.{is_member-all_below, IsSet-nil}
-use Rattle.mat_sets.proofs.Members.{same_members, is_member-intersection, is_member-minus, is_member-union, is_member-with_one, IsRising-intersection, IsRising-nil, IsRising-union, IsRising-with_one}
-use Rattle.mat_sets.proofs.Sums.{AllBelow-at}
-use Rattle.mat_sets.proofs.Truths.{and_all}
-use Rattle.mat_laws.proofs.RankLaws.{rank-maximal}
-use Rattle.mat_union.specs.GrownParts.{AreGrowing}
-use Rattle.mat_union.specs.Moves.{exchanges_with}
-use Rattle.mat_union.specs.MoveSearches.{IsReaching}
-use Rattle.mat_union.specs.PartListLaws.{law_at, ranks_bound, ranks_reached, union_only}
-use Rattle.mat_union.specs.Unions.{part_at, union_test, AreMatroids, AreParts}
-use Rattle.mat_union.specs.declared.move_search.MoveSearch.{MoveSearch}
+use Rattle.mat_union.proofs.Common.{◌≡◌, ℕ, ◌<◌, ◌≤◌, Bool, true, false, ◌||◌, ◌&&◌, eqb, ltb, List, [], length, get_or, refl, sym, ap, ◌∙◌, subst, arith, eqb-true, false_from_ne_true, false≢true, family_union, all_below, is_member, AllBelow, intersection, minus, union, with_one, length-with_one}
+use Rattle.mat_union.proofs.Common.{IsRising-family_union, filter_none, is_member-all_below, IsSet-nil, same_members, is_member-intersection, is_member-minus, is_member-union, is_member-with_one, IsRising-intersection, IsRising-nil, IsRising-union, IsRising-with_one, AllBelow-at, and_all}
+use Rattle.mat_union.proofs.Common.{rank-maximal, AreGrowing, exchanges_with, IsReaching, law_at, ranks_bound, ranks_reached, union_only, part_at, union_test, AreMatroids, AreParts, MoveSearch}
 use Rattle.mat_union.proofs.GrowingSteps.{spanned_grown}
 
 none_in : (P : List ℕ) → intersection P [] ≡ []

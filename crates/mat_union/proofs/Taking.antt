@@ -1,12 +1,6 @@
 -- The loop that puts the unreached elements among these into the queue: those that are no longer unreached were taken.
-use Rattle.std.proofs.Common.{◌≡◌, ℕ, suc, ◌+◌, ◌<◌, ◌≤◌, Bool, true, false, not, ◌||◌, ◌&&◌, cond, eqb, List, [], ◌∷◌, ◌++◌, length, refl, sym, ap, ◌∙◌, inl, inr, arith, length-append, append_assoc, append-nil}
-use Rattle.std.proofs.lemmas.Bool.{and_parts, cases_Bool, eq-eqb, eqb-true, false≢true}
-use Rattle.mat_sets.specs.Search.{IsFirstFrom}
-use Rattle.mat_sets.specs.Sets.{is_member, without_one}
-use Rattle.mat_sets.proofs.ListParts.{is_member-push}
-use Rattle.mat_sets.proofs.Members.{is_member-without_one}
-use Rattle.mat_sets.proofs.Truths.{and_not_gives}
-use Rattle.mat_union.specs.MoveSearches.{AreTaken}
+use Rattle.mat_union.proofs.Common.{◌≡◌, ℕ, suc, ◌+◌, ◌<◌, ◌≤◌, Bool, true, false, not, ◌||◌, ◌&&◌, cond, eqb, List, [], ◌∷◌, ◌++◌, length, refl, sym, ap, ◌∙◌, inl, inr, arith, length-append, append_assoc, append-nil, and_parts, cases_Bool, eq-eqb, eqb-true, false≢true, IsFirstFrom, is_member}
+use Rattle.mat_union.proofs.Common.{without_one, is_member-push, is_member-without_one, and_not_gives, AreTaken}
 
 -- a list without one of its members is shorter
 pub without-no_longer : (a : List ℕ) (x : ℕ) → length (without_one a x) ≤ length a

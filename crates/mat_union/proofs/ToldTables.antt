@@ -1,11 +1,6 @@
 -- The loop that puts each told row at its element: a row that stands at an element is told of it, and the rows of the others stay empty.
-use Rattle.std.proofs.Common.{◌≡◌, ◌≢◌, ℕ, ◌+◌, ◌<◌, true, false, eqb, List, [], length, get_or, replicate, set, take, inl, inr, sym, ap, ◌∙◌, arith}
-use Rattle.std.proofs.lemmas.Bool.{both_ways, cases_eq, eq-eqb, eqb-true, false≢true, or_cases, or_parts}
-use Rattle.std.proofs.lemmas.List.{get_or-set_other, get_or-set_same, length-replicate, length-set}
-use Rattle.mat_sets.specs.Rows.{row_at}
-use Rattle.mat_sets.specs.Sets.{is_member}
-use Rattle.mat_sets.proofs.Steps.{is_member-take_more}
-use Rattle.mat_union.specs.MoveSearches.{IsToldTable}
+use Rattle.mat_union.proofs.Common.{◌≡◌, ◌≢◌, ℕ, ◌+◌, ◌<◌, true, false, eqb, List, [], length, get_or, replicate, set, take, inl, inr, sym, ap, ◌∙◌, arith, both_ways, cases_eq, eq-eqb, eqb-true, false≢true, or_cases, or_parts, get_or-set_other, get_or-set_same, length-replicate, length-set, row_at}
+use Rattle.mat_union.proofs.Common.{is_member, is_member-take_more, IsToldTable}
 use Rattle.mat_union.proofs.EmptyParts.{part_at-empty}
 
 pub empty_table : (n : ℕ) (queue : List ℕ) (told table : List (List ℕ)) → table ≡ replicate n [] → IsToldTable n 0 queue told table

@@ -1,26 +1,7 @@
 -- The exchanges of an element at an independent set of the union, by one search for moves from its parts.
-use Rattle.std.proofs.Common.{◌≡◌, ℕ, ◌<◌, Bool, true, false, not, ◌||◌, ◌&&◌, eqb, List, length, get_or, refl, sym, ap, ◌∙◌, arith}
-use Rattle.std.proofs.lemmas.Bool.{and_parts, false_from_ne_true, not-true, eqb-true}
-use Rattle.mat_sets.specs.Sets.{is_member, IsSet, IsSubset, intersection, with_one}
-use Rattle.mat_sets.specs.Families.{family_union}
-use Rattle.mat_sets.specs.Walks.{IsReachedSet}
-use Rattle.mat_sets.proofs.Members.{filter_same_at, is_member-with_one}
-use Rattle.mat_sets.proofs.Families.{IsRising-family_union}
-use Rattle.mat_sets.proofs.Filters.{filter_whole}
-use Rattle.mat_sets.proofs.Ground.{below_member, IsSet-with_one}
-use Rattle.mat_sets.proofs.Subsets.{IsSubset-refl, IsSubset-with_one}
-use Rattle.mat_sets.proofs.Equalities.{intersection-subset}
-use Rattle.mat_sets.proofs.Cardinalities.{length-with_one}
-use Rattle.mat_laws.specs.declared.exchange.Exchange.{Exchange}
-use Rattle.mat_laws.specs.Exchanges.{row_of}
-use Rattle.mat_laws.proofs.Rows.{exchanged, row_outside}
-use Rattle.mat_union.specs.Unions.{AreMatroids, AreParts, union_test}
-use Rattle.mat_union.specs.Moves.{can_push, element_at, exchanges_with, is_free, row_found, IsMoves, IsShortestMovePath, IsStuck}
-use Rattle.mat_union.specs.PartListLaws.{cut_bounds, parts_pass, parts_set, union_only}
-use Rattle.mat_union.specs.UnionLaws.{addable_takes_all, exchanges_reached, moves_keep, reach_inside, stuck_cut}
-use Rattle.mat_union.specs.declared.moves.Move.{Move}
-use Rattle.mat_union.specs.declared.moves.Moves.{Moves}
-use Rattle.mat_union.specs.declared.moves.Moves.TheVariants.{Path, Stuck}
+use Rattle.mat_union.proofs.Common.{◌≡◌, ℕ, ◌<◌, Bool, true, false, not, ◌||◌, ◌&&◌, eqb, List, length, get_or, refl, sym, ap, ◌∙◌, arith, and_parts, false_from_ne_true, not-true, eqb-true, is_member, IsSet, IsSubset, intersection, with_one, family_union, IsReachedSet, filter_same_at}
+use Rattle.mat_union.proofs.Common.{is_member-with_one, IsRising-family_union, filter_whole, below_member, IsSet-with_one, IsSubset-refl, IsSubset-with_one, intersection-subset, length-with_one, Exchange, row_of, exchanged, row_outside, AreMatroids, AreParts, union_test, can_push, element_at}
+use Rattle.mat_union.proofs.Common.{exchanges_with, is_free, row_found, IsMoves, IsShortestMovePath, IsStuck, cut_bounds, parts_pass, parts_set, union_only, addable_takes_all, exchanges_reached, moves_keep, reach_inside, stuck_cut, Move, Moves, Path, Stuck}
 
 module _ {n : ℕ} (tests : List (List ℕ → Bool)) (laws : AreMatroids n tests) (parts : List (List ℕ)) (are : AreParts tests parts)
     (x : ℕ) (small : x < n) (out : is_member x (family_union parts) ≡ false) where

@@ -1,21 +1,6 @@
 -- The moves along a walk with fewest vertices are a move path with fewest moves.
-use Rattle.std.proofs.Common.{◌≡◌, ℕ, suc, ◌+◌, ◌<◌, Bool, true, List, length, get_or, sym, ap, ◌∙◌, subst, inl, inr, arith}
-use Rattle.std.proofs.lemmas.Bool.{cases_eq, and_parts}
-use Rattle.std.proofs.lemmas.List.{length-map}
-use Rattle.mat_sets.specs.Sets.{is_member}
-use Rattle.mat_sets.specs.Walks.{IsReachedSet, IsShortestWalk}
-use Rattle.mat_sets.specs.WalkSearches.{IsWalkSearch}
-use Rattle.mat_sets.specs.declared.walk_search.WalkSearch.{WalkSearch}
-use Rattle.mat_sets.specs.declared.walk_search.WalkSearch.TheVariants.{Reached}
-use Rattle.mat_sets.proofs.Families.{family_union-from}
-use Rattle.mat_sets.proofs.Ground.{below_member}
-use Rattle.mat_sets.proofs.Search.{some_below_gives}
-use Rattle.mat_laws.specs.declared.exchange.Exchange.{Exchange}
-use Rattle.mat_union.specs.Moves.{can_enter, can_push, exchanges_of, is_free, element_at, elements, place_at, IsShortestMovePath, IsStuck}
-use Rattle.mat_union.specs.MoveGraphs.{AreMovable}
-use Rattle.mat_union.specs.MoveSearches.{AreMovesAt}
-use Rattle.mat_union.specs.MoveWalkLaws.{path_is_walk, stuck_from, AreBelow}
-use Rattle.mat_union.specs.declared.moves.Move.{Move}
+use Rattle.mat_union.proofs.Common.{◌≡◌, ℕ, suc, ◌+◌, ◌<◌, Bool, true, List, length, get_or, sym, ap, ◌∙◌, subst, inl, inr, arith, cases_eq, and_parts, length-map, is_member, IsReachedSet, IsShortestWalk, IsWalkSearch, WalkSearch, Reached, family_union-from, below_member, some_below_gives, Exchange}
+use Rattle.mat_union.proofs.Common.{can_enter, can_push, exchanges_of, is_free, element_at, elements, place_at, IsShortestMovePath, IsStuck, AreMovable, AreMovesAt, path_is_walk, stuck_from, AreBelow, Move}
 
 module _ {n : ℕ} {rows : List (List Exchange)} {parts : List (List ℕ)} {within : List ℕ} (movable : AreMovable n rows parts within) where
   pub movable_below : AreBelow n (length rows) (exchanges_of rows) (is_free parts within)

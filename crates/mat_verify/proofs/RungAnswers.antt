@@ -1,19 +1,15 @@
 -- The rungs of a right answer are right, and what is written of a witness that shows one is its text.
-use Rattle.std.proofs.Common.{◌≡◌, ℕ, true, List, length}
-use Rattle.std.proofs.lemmas.Bool.{and_parts, false≢true, ltb-true}
+use Rattle.mat_verify.proofs.Common.{◌≡◌, ℕ, true, List, length, ltb-true, Instance, pair, has_rung, witness_text, IsShowing, fits_rung}
+use Rattle.std.proofs.lemmas.Bool.{and_parts, false≢true}
 use Rattle.std.proofs.lemmas.Option.{slice_get-get_or}
 use Rattle.mat_problem.specs.Validity.{IsValid}
-use Rattle.mat_problem.specs.Instances.{Instance, pair}
 use Rattle.mat_cert.specs.declared.answer.PricedRung.{PricedRung}
 use Rattle.mat_cert.specs.Certificates.{Certificate, IsRanged, intersect}
 use Rattle.mat_right.specs.Right.{IsRight}
 use Rattle.mat_check.specs.Fitting.{fits}
-use Rattle.mat_witness.specs.Kinds.{has_rung}
-use Rattle.mat_witness.specs.Lines.{witness_text}
 use Rattle.mat_witness.specs.Parts.{WitnessParts}
 use Rattle.mat_witness.specs.Shown.{IsRightRungOf, IsShown, IsWitnessFor, rung_at}
 use Rattle.mat_witness.proofs.WitnessLengths.{text_short}
-use Rattle.mat_verify.specs.Witnessing.{IsShowing, fits_rung}
 
 -- ---- the rungs of a right answer
 

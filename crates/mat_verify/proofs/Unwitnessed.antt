@@ -1,20 +1,13 @@
 -- Why there is no witness or none is verified, over the shelf as it was before: a count that rose rose from a lesser one, and what was held is
 -- held; and what is said of an answer as what is said of the file that it was read from.
-use Rattle.std.proofs.Common.{◌≡◌, ℕ, ◌≤◌, true, List, Option, inl, inr, subst}
-use Rattle.std.specs.Prelude.{IfSome}
-use Rattle.mat_problem.specs.Instances.{Instance}
+use Rattle.mat_verify.proofs.Common.{◌≡◌, ℕ, ◌≤◌, true, List, Option, inl, inr, subst, IfSome, Instance, is_witnessed_pair, witness_limit, if_told, unread_before, IsRungAnswer, HasNoRung, HasNoWitness, IsRefusedAnswer, IsUnshown, IsUnshownRung, IsUnverified, IsUnwitnessable, IsWrongRung}
 use Rattle.mat_cert.specs.Certificates.{Certificate}
 use Rattle.mat_cert.specs.Limits.{certificate_limit}
-use Rattle.mat_witness.specs.Kinds.{is_witnessed_pair}
-use Rattle.mat_witness.specs.Lines.{witness_limit}
 use Rattle.mat_judge.specs.Certified.{IsCertified, IsUncertified}
 use Rattle.mat_judge.specs.declared.certified.Uncertified.{Uncertified}
 use Rattle.mat_judge.specs.declared.certified.Uncertified.TheVariants as uncertified
 use Rattle.mat_judge.specs.declared.reading.Unread.TheVariants as unread
 use Rattle.mat_judge.specs.declared.refusal.Refusal.{Refusal}
-use Rattle.mat_judge.proofs.Told.{if_told, unread_before}
-use Rattle.mat_verify.specs.Witnessing.{IsRungAnswer}
-use Rattle.mat_verify.specs.WitnessRefusals.{HasNoRung, HasNoWitness, IsRefusedAnswer, IsUnshown, IsUnshownRung, IsUnverified, IsUnwitnessable, IsWrongRung}
 use Rattle.mat_verify.specs.declared.refusals.NoRung.{NoRung}
 use Rattle.mat_verify.specs.declared.refusals.NoRung.TheVariants as no_rung
 use Rattle.mat_verify.specs.declared.refusals.Unshown.{Unshown}

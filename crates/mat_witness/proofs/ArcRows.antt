@@ -1,13 +1,6 @@
 -- Rows of the heads of arcs: at first they are empty, and each arc puts its head into the row of its tail.
-use Rattle.std.proofs.Common.{◌≡◌, ℕ, ◌+◌, ◌<◌, ◌||◌, ◌&&◌, eqb, List, [], length, set, take, replicate, refl, sym, ap, ◌∙◌, subst, length-set}
-use Rattle.std.proofs.lemmas.List.{get_or-replicate, length-replicate}
-use Rattle.mat_sets.specs.Graphs.{ends_of}
-use Rattle.mat_sets.specs.Rows.{row_at}
-use Rattle.mat_sets.specs.Sets.{is_member, with_one}
+use Rattle.mat_witness.proofs.Common.{◌≡◌, ℕ, ◌+◌, ◌<◌, ◌||◌, ◌&&◌, eqb, List, [], length, set, take, replicate, refl, sym, ap, ◌∙◌, subst, length-set, get_or-replicate, length-replicate, ends_of, row_at, is_member, with_one, has_arc, has_arc-more, AreArcRows}
 use Rattle.mat_sets.proofs.Rows.{is_member-inserted}
-use Rattle.mat_flow.specs.Paths.{has_arc}
-use Rattle.mat_flow.proofs.Rows.{has_arc-more}
-use Rattle.mat_witness.specs.GammoidSteps.{AreArcRows}
 
 pub AreArcRows-none : (n : ℕ) (rows : List (List ℕ)) → rows ≡ replicate n [] → AreArcRows n [] rows
 AreArcRows-none n rows e = record {

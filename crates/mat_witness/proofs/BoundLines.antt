@@ -1,32 +1,9 @@
 -- The lines of a bound: what is read is spelled so, and what is spelled so is read.
-use Rattle.std.proofs.Common.{◌≡◌, ℕ, ◌^◌, ◌<◌, ◌≤◌, pos, true, List, [], ◌∷◌, ◌++◌, length, map, Result, Ok}
-use Rattle.std.proofs.Common.{refl, sym, ap, subst, ◌∙◌, arith}
-use Rattle.std.specs.Prelude.{codes}
+use Rattle.mat_witness.proofs.Common.{◌≡◌, ℕ, ◌^◌, ◌<◌, ◌≤◌, pos, true, List, [], ◌∷◌, ◌++◌, length, map, Result, Ok, refl, sym, ap, subst, ◌∙◌, arith, codes, and_from, append-nil, length-map, AllBelow, IsSet, LinesLeft, Line, numeral, numerals, ◌>>=◌, repeat_at, is_word, members_line, AreLeft}
+use Rattle.mat_witness.proofs.Common.{numeral_word, found-same, bind_found, told_again, numerals_words, size_again, Tree, uniform, partition, laminar, graphic, gammoid, gf2, below_at, counted_at, set_at, size_at, Fault, kind_of, IsRead, IsReadAgain, set_found, set_again, size_read, whole_line}
+use Rattle.mat_witness.proofs.Common.{is_witnessed, binary_line, bound_lines, AreSpent, BoundPart, IsBoundFor, spent, labels, gate, zeros, binary_line_at, bound_at, counted_found, counted_again}
 use Rattle.std.specs.List.{All}
-use Rattle.std.proofs.lemmas.Bool.{and_from}
-use Rattle.std.proofs.lemmas.List.{append-nil, length-map}
-use Rattle.mat_sets.specs.Sets.{AllBelow, IsSet}
-use Rattle.mat_words.specs.Cursors.{LinesLeft}
-use Rattle.mat_words.specs.Lines.{Line}
-use Rattle.mat_words.specs.Numbers.{numeral, numerals}
-use Rattle.mat_words.specs.Steps.{◌>>=◌, repeat_at}
-use Rattle.mat_words.specs.Words.{is_word}
-use Rattle.mat_words.specs.Writing.{members_line}
 use Rattle.mat_words.specs.Reading as any_text
-use Rattle.mat_words.proofs.LineReading.{AreLeft}
-use Rattle.mat_words.proofs.NumberLemmas.{numeral_word}
-use Rattle.mat_words.proofs.ReadingSteps.{found-same, bind_found, told_again}
-use Rattle.mat_words.proofs.WordReading.{numerals_words, size_again}
-use Rattle.mat_any.specs.Trees.{Tree, uniform, partition, laminar, graphic, gammoid, gf2}
-use Rattle.mat_cert.specs.LineReading.{below_at, counted_at, set_at, size_at}
-use Rattle.mat_cert.specs.Faults.{Fault, kind_of}
-use Rattle.mat_cert.proofs.LineLaws.{IsRead, IsReadAgain, set_found, set_again}
-use Rattle.mat_cert.proofs.WordLaws.{size_read, whole_line}
-use Rattle.mat_witness.specs.Kinds.{is_witnessed}
-use Rattle.mat_witness.specs.Lines.{binary_line, bound_lines}
-use Rattle.mat_witness.specs.Parts.{AreSpent, BoundPart, IsBoundFor, spent, labels, gate, zeros}
-use Rattle.mat_witness.specs.Reading.{binary_line_at, bound_at}
-use Rattle.mat_cert.proofs.LineLaws.{counted_found, counted_again}
 use Rattle.mat_cert.proofs.ListLaws.{items_found, items_again}
 use Rattle.mat_witness.proofs.WordRows.{numbers_found, numbers_again}
 use Rattle.mat_witness.proofs.PartLines.{binary_line_found, binary_line_again}

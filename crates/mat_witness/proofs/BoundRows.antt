@@ -1,21 +1,8 @@
 -- The bounds of a rung stand in a row: those of its first half's demands, those of its second half's, and one in each matroid for the cut.
-use Rattle.std.proofs.Common.{◌≡◌, ℕ, zero, suc, ◌+◌, arith, Bool, true, false, cond, List, [], ◌∷◌, ◌++◌, length, map, Result, Ok, Err}
-use Rattle.std.proofs.Common.{refl, sym, ap, subst, ◌∙◌, append_assoc}
-use Rattle.std.specs.Prelude.{filter, nat_lt, replicate}
+use Rattle.mat_witness.proofs.Common.{◌≡◌, ℕ, zero, suc, ◌+◌, arith, Bool, true, false, cond, List, [], ◌∷◌, ◌++◌, length, map, Result, Ok, Err, refl, sym, ap, subst, ◌∙◌, append_assoc, filter, nat_lt, replicate, length-map, map-append, All-append, All-cons, All-nil, Weight, falling_weights}
+use Rattle.mat_witness.proofs.Common.{LinesLeft, ◌>>=◌, repeat_at, Tree, Fault, PricedRung, BoundPart, bound_at, bounds_at, Demand, bounded_trees, demand_at, demands_under}
 use Rattle.std.specs.List.{All}
-use Rattle.std.proofs.lemmas.List.{length-map, map-append}
-use Rattle.std.proofs.lemmas.List.Elements.{All-append, All-cons, All-nil}
-use Rattle.mat_sets.specs.declared.weight.Weight.{Weight}
-use Rattle.mat_sets.specs.FallingWeights.{falling_weights}
-use Rattle.mat_words.specs.Cursors.{LinesLeft}
-use Rattle.mat_words.specs.Steps.{◌>>=◌, repeat_at}
-use Rattle.mat_any.specs.Trees.{Tree}
-use Rattle.mat_cert.specs.Faults.{Fault}
-use Rattle.mat_cert.specs.declared.answer.PricedRung.{PricedRung}
 use Rattle.mat_witness.specs.BoundRows.{behind, row_at, row_trees}
-use Rattle.mat_witness.specs.Parts.{BoundPart}
-use Rattle.mat_witness.specs.Reading.{bound_at, bounds_at}
-use Rattle.mat_witness.specs.Shown.{Demand, bounded_trees, demand_at, demands_under}
 
 -- ---- steps of a reading
 

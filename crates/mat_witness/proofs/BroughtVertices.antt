@@ -1,9 +1,7 @@
 -- The edges of pairs, one after the other, with a table of the ends of those so far: each brings its vertex where this is not yet marked.
-use Rattle.std.proofs.Common.{◌≡◌, ℕ, suc, ◌+◌, ◌<◌, Bool, true, false, not, ◌&&◌, ◌||◌, eqb, get_or, set, drop, List, [], ◌∷◌, length, inl, inr, refl, sym, ap, ◌∙◌, arith, add-one, drop-cons, length-set}
+use Rattle.mat_witness.proofs.Common.{◌≡◌, ℕ, suc, ◌+◌, ◌<◌, Bool, true, false, not, ◌&&◌, ◌||◌, eqb, get_or, set, drop, List, [], ◌∷◌, length, inl, inr, refl, sym, ap, ◌∙◌, arith, add-one, drop-cons, length-set, cases_eq, eq-eqb, ne_eqb, get_or-set_other, get_or-set_same, bring_vertices, is_end}
+use Rattle.mat_witness.proofs.Common.{is_single_end}
 use Rattle.std.specs.List.{list_any}
-use Rattle.std.proofs.lemmas.Bool.{cases_eq, eq-eqb, ne_eqb}
-use Rattle.std.proofs.lemmas.List.{get_or-set_other, get_or-set_same}
-use Rattle.mat_witness.specs.FreeParts.{bring_vertices, is_end, is_single_end}
 
 -- the pairs from place i on are judged by the edges before it, whose ends the table marks
 pub record IsJudging (ends : ℕ → ℕ × ℕ) (pairs : List (ℕ × ℕ)) (i vertices : ℕ) (touched : List Bool) : Type 0 where

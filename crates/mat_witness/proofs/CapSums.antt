@@ -1,15 +1,8 @@
 -- Sums of the caps of chosen sets.
-use Rattle.std.proofs.Common.{◌≡◌, ℕ, zero, suc, ◌+◌, ◌*◌, ◌<◌, ◌≤◌, List, [], ◌∷◌, length, get_or, take, inl, inr, arith}
+use Rattle.mat_witness.proofs.Common.{◌≡◌, ℕ, zero, suc, ◌+◌, ◌*◌, ◌<◌, ◌≤◌, List, [], ◌∷◌, length, get_or, take, inl, inr, arith, cases_lt, get_or_past, length-take, All-get_or, most_elements, IsSet, IsSet-length, caps_sum}
 use Rattle.std.proofs.Math.Numerals.{add-one}
-use Rattle.std.proofs.lemmas.Bool.{cases_lt}
-use Rattle.std.proofs.lemmas.List.{get_or_past, length-take}
-use Rattle.std.proofs.lemmas.List.Elements.{All-get_or}
 use Rattle.std.specs.List.{All}
-use Rattle.mat_sets.specs.Limits.{most_elements}
-use Rattle.mat_sets.specs.Sets.{IsSet}
-use Rattle.mat_sets.proofs.Ground.{IsSet-length}
 use Rattle.mat_problem.specs.Limits.{most_sets}
-use Rattle.mat_witness.specs.BoundParts.{caps_sum}
 
 -- one more set
 pub caps_sum-more : (caps chosen : List ℕ) (i : ℕ) → i < length chosen

@@ -1,28 +1,15 @@
 -- What probes show and zeros bound over the field of two elements. A sum of columns with the column of x in it meets the probe of x oddly, so it is
 -- not zero. And for each zero a column can be added that it alone meets oddly, a one at its own place, so that independent columns stay so and
 -- are no more than a column has entries.
-use Rattle.std.proofs.Common.{◌≡◌, ℕ, zero, suc, ◌+◌, ◌-◌, ◌^◌, ◌<◌, ◌≤◌, ◌≢◌, Bool, true, false, not, cond, eqb, List, [], ◌∷◌, length, get_or, All, inl, inr, refl, sym, ap, ◌∙◌, subst, arith}
+use Rattle.mat_witness.proofs.Common.{◌≡◌, ℕ, zero, suc, ◌+◌, ◌-◌, ◌^◌, ◌<◌, ◌≤◌, ◌≢◌, Bool, true, false, not, cond, eqb, List, [], ◌∷◌, length, get_or, All, inl, inr, refl, sym, ap, ◌∙◌, subst, arith, cases_lt, both_ways, and_parts, and_from, not-true, or_cases, or_right, eq-eqb, eqb-true}
+use Rattle.mat_witness.proofs.Common.{eqb-false, ne_eqb, false_from_ne_true, cond-true, cond-false, bit_at_above, is_member, IsRising, RisesFrom, IsSet, IsSubset, with_one, is_set, length-with_one, IsSet-from, IsSet-length, below_member, is_member-head, is_member-with_one, IsRising-with_one}
+use Rattle.mat_witness.proofs.Common.{place_of_member, is_member-get_or, member_from, some_below_gives, IsSet-from_test, test_from-IsSet, xor_of, IsLinearlyIndependent, is_linearly_independent, is_gf2, column_of, IsBinaryMatrix, remainder, leading_bit, leading_bit-is, leading_bit-set}
+use Rattle.mat_witness.proofs.Common.{reduced-keeps_clear, inner_product_is_one, differ, inner_product_is_one-xor_right, inner_product_is_one-zero_right, inner_product_is_one-power, inner_product_is_one-turned, meet_sum_evenly, shows_probes, are_zeros, has_own_one}
 use Rattle.std.specs.Int.{bit_at}
 use Rattle.std.specs.List.{list_all}
 use Rattle.std.proofs.Math.Pow.{pow-lt}
-use Rattle.std.proofs.lemmas.Bool.{cases_lt, both_ways, and_parts, and_from, not-true, or_cases, or_right, eq-eqb, eqb-true, eqb-false, ne_eqb, false_from_ne_true, cond-true, cond-false}
-use Rattle.std.proofs.lemmas.Nat.Bits.{bit_at_above}
-use Rattle.mat_sets.specs.Sets.{is_member, IsRising, RisesFrom, IsSet, IsSubset, with_one}
-use Rattle.mat_sets.specs.SetTests.{is_set}
-use Rattle.mat_sets.proofs.Cardinalities.{length-with_one}
-use Rattle.mat_sets.proofs.Ground.{IsSet-from, IsSet-length, below_member}
-use Rattle.mat_sets.proofs.Members.{is_member-head, is_member-with_one, IsRising-with_one, place_of_member, is_member-get_or, member_from}
-use Rattle.mat_sets.proofs.Search.{some_below_gives}
-use Rattle.mat_sets.proofs.SetTests.{IsSet-from_test, test_from-IsSet}
-use Rattle.mat_gf2.specs.Columns.{xor_of, IsLinearlyIndependent, is_linearly_independent, is_gf2, column_of, IsBinaryMatrix}
-use Rattle.mat_gf2.specs.Eliminations.{remainder}
-use Rattle.mat_gf2.specs.LeadingBitLaws.{leading_bit, leading_bit-is, leading_bit-set, reduced-keeps_clear}
 use Rattle.mat_gf2.specs.PivotLaws.{pivots, no_pivot, IsRising-pivots, pivot-cases, length-pivots}
 use Rattle.mat_gf2.specs.SpanLaws.{in_span-from_remainder, IsLinearlyIndependent-more, IsLinearlyIndependent-from_test, test_from-IsLinearlyIndependent}
-use Rattle.mat_gf2.specs.InnerProducts.{inner_product_is_one}
-use Rattle.mat_gf2.proofs.InnerProducts.{differ, inner_product_is_one-xor_right, inner_product_is_one-zero_right, inner_product_is_one-power, inner_product_is_one-turned, meet_sum_evenly}
-use Rattle.mat_witness.specs.FreeParts.{shows_probes}
-use Rattle.mat_witness.specs.BoundParts.{are_zeros, has_own_one}
 use Rattle.mat_witness.proofs.PassingLists.{all_below_pass, member_passes}
 
 -- ---- probes

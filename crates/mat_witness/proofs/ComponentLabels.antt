@@ -1,23 +1,9 @@
 -- The least vertices of the components of a set of edges, as labels: no edge of the set joins two of them, and there are as many different ones
 -- as components.
-use Rattle.std.proofs.Common.{◌≡◌, ℕ, ◌-◌, ◌<◌, ◌≤◌, true, ◌==◌, eqb, ltb, get_or, List, [], length, Result, Ok, Err, refl, sym, ◌∙◌, arith}
+use Rattle.mat_witness.proofs.Common.{◌≡◌, ℕ, ◌-◌, ◌<◌, ◌≤◌, true, ◌==◌, eqb, ltb, get_or, List, [], length, Result, Ok, Err, refl, sym, ◌∙◌, arith, and_parts, eqb-true, eq-eqb, ltb-true, false≢true, IsGraph, ends_of, those_below, AllBelow, IsSet, union, AllBelow-from_members, below_member}
+use Rattle.mat_witness.proofs.Common.{IsRising-nil, IsRising-union, is_member-get_or, place_of_member, IsSet-those_below, is_member-those_below, length-subset, union-left, IsMaximal, rank-maximal, IsLeastReached, is_graphic, least_reached, number_of_components, member_within, graphic_laws}
+use Rattle.mat_witness.proofs.Common.{least_merged, AreEndsBelow, IsLeastReached-unique, least_reached-merged, rank_and_number, count_different, have_equal_labels, label_of}
 use Rattle.std.specs.Result.{IfOk}
-use Rattle.std.proofs.lemmas.Bool.{and_parts, eqb-true, eq-eqb, ltb-true, false≢true}
-use Rattle.mat_sets.specs.Graphs.{IsGraph, ends_of}
-use Rattle.mat_sets.specs.Search.{those_below}
-use Rattle.mat_sets.specs.Sets.{AllBelow, IsSet, union}
-use Rattle.mat_sets.proofs.Ground.{AllBelow-from_members, below_member}
-use Rattle.mat_sets.proofs.Members.{IsRising-nil, IsRising-union, is_member-get_or, place_of_member}
-use Rattle.mat_sets.proofs.Search.{IsSet-those_below, is_member-those_below}
-use Rattle.mat_sets.proofs.Subsets.{length-subset, union-left}
-use Rattle.mat_laws.specs.Matroids.{IsMaximal}
-use Rattle.mat_laws.proofs.RankLaws.{rank-maximal}
-use Rattle.mat_graphic.specs.Forests.{IsLeastReached, is_graphic, least_reached, number_of_components}
-use Rattle.mat_graphic.specs.ComponentLaws.{member_within}
-use Rattle.mat_graphic.specs.ForestLaws.{graphic_laws}
-use Rattle.mat_graphic.specs.Mergings.{least_merged}
-use Rattle.mat_graphic.proofs.ComponentCounts.{AreEndsBelow, IsLeastReached-unique, least_reached-merged, rank_and_number}
-use Rattle.mat_witness.specs.BoundParts.{count_different, have_equal_labels, label_of}
 use Rattle.mat_witness.proofs.ListedMembers.{list_all-from}
 
 -- each label is the least vertex that is reached

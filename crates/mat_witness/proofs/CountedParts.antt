@@ -1,22 +1,10 @@
 -- An independent set inside a covered one has at most as many members as the bound: some of its members are among the elements that count
 -- themselves, and of each chosen set it has at most the cap.
-use Rattle.std.proofs.Common.{◌≡◌, ℕ, ◌+◌, ◌≤◌, Bool, true, false, ◌||◌, leb, List, [], ◌∷◌, length, get_or, inl, inr, refl, ap, subst, arith}
-use Rattle.std.proofs.lemmas.Bool.{and_parts, and_from, both_ways, leb-true, le-leb, or_cases}
-use Rattle.std.proofs.lemmas.List.Elements.{All-from_get_or, All-get_or}
-use Rattle.std.proofs.lemmas.List.Sums.{AllPass-from_list_all, list_all-from_AllPass}
-use Rattle.mat_sets.specs.Sets.{is_member, all_below, AllBelow, IsRising, IsSet, IsSubset, minus, intersection}
-use Rattle.mat_sets.specs.SetTests.{is_set}
-use Rattle.mat_sets.proofs.Cardinalities.{length-minus-intersection}
-use Rattle.mat_sets.proofs.DisjointSets.{no_members}
-use Rattle.mat_sets.proofs.Members.{IsRising-intersection, IsRising-minus, is_member-get_or, place_of_member, set_members}
-use Rattle.mat_sets.proofs.SetTests.{IsSet-from_test}
-use Rattle.mat_sets.proofs.Subsets.{intersection-left, intersection-right, length-subset}
-use Rattle.mat_count.specs.Counts.{is_counted, is_uniform, is_within_caps, IsWithinCaps}
-use Rattle.mat_count.specs.LaminarLaws.{IsWithinCaps-from_test}
-use Rattle.mat_count.specs.LaminarMatroids.{IsLaminar}
+use Rattle.mat_witness.proofs.Common.{◌≡◌, ℕ, ◌+◌, ◌≤◌, Bool, true, false, ◌||◌, leb, List, [], ◌∷◌, length, get_or, inl, inr, refl, ap, subst, arith, and_parts, and_from, both_ways, leb-true, le-leb, or_cases, All-from_get_or, All-get_or, AllPass-from_list_all, list_all-from_AllPass, is_member}
+use Rattle.mat_witness.proofs.Common.{all_below, AllBelow, IsRising, IsSet, IsSubset, minus, intersection, is_set, length-minus-intersection, no_members, IsRising-intersection, IsRising-minus, is_member-get_or, place_of_member, set_members, IsSet-from_test, intersection-left, intersection-right}
+use Rattle.mat_witness.proofs.Common.{length-subset, is_counted, is_uniform, is_within_caps, IsWithinCaps, IsWithinCaps-from_test, IsLaminar, are_covered, caps_sum, is_in_chosen}
 use Rattle.mat_count.specs.PartitionLaws.{IsLaminarFamily-from_disjoint}
 use Rattle.mat_count.specs.Partitions.{IsPartition}
-use Rattle.mat_witness.specs.BoundParts.{are_covered, caps_sum, is_in_chosen}
 
 -- what is left of a set outside S is within the caps too
 within_less : (sets : List (List ℕ)) (caps X S : List ℕ) → IsRising X → IsWithinCaps sets caps X → IsWithinCaps sets caps (minus X S)

@@ -1,26 +1,10 @@
 -- The bound that the largest filled sets make: on the members of the independent set they are apart, so that their caps are together the number
 -- of its members in them; and each other element of the bounded set is one of its members, since it could be added.
-use Rattle.std.proofs.Common.{◌≡◌, ℕ, ◌+◌, ◌<◌, ◌≤◌, Bool, true, false, ◌||◌, Option, Some, None, List, [], ◌∷◌, length, get_or, inl, inr, refl, sym, ap, ◌∙◌, subst, arith}
-use Rattle.std.proofs.lemmas.Bool.{and_from, and_parts, both_ways, cases_Bool, false_from_ne_true, leb-true, leb-false, or_left, or_right, true_from_ne_false}
-use Rattle.std.proofs.lemmas.List.Folds.{list_any_at}
+use Rattle.mat_witness.proofs.Common.{◌≡◌, ℕ, ◌+◌, ◌<◌, ◌≤◌, Bool, true, false, ◌||◌, Option, Some, None, List, [], ◌∷◌, length, get_or, inl, inr, refl, sym, ap, ◌∙◌, subst, arith, and_from, and_parts, both_ways, cases_Bool, false_from_ne_true, leb-true, leb-false, or_left, or_right}
+use Rattle.mat_witness.proofs.Common.{true_from_ne_false, list_any_at, same_Some, is_member, AreDistinct, IsRising, IsSet, IsSubset, intersection, minus, with_one, is_set, length-minus-intersection, IsRising-filter, AreDistinct-rising, IsSet-from, IsSet-subset, below_member, is_member-tail}
+use Rattle.mat_witness.proofs.Common.{IsRising-intersection, IsRising-minus, is_member-filter, is_member-head, place_of_member, same_members, set_members, IsSet-from_test, is_set-with_one, length-subset, IsMaximal, is_counted, is_within_caps, IsWithinCaps, IsWithinCaps-from_test, counted_more}
+use Rattle.mat_witness.proofs.Common.{counted_same, test_from-IsWithinCaps, IsLaminar, are_covered, caps_sum, is_in_chosen, AreNamed, is_unnamed, largest_filled, AreSpent}
 use Rattle.std.specs.List.{filter}
-use Rattle.std.proofs.lemmas.Option.{same_Some}
-use Rattle.mat_sets.specs.Sets.{is_member, AreDistinct, IsRising, IsSet, IsSubset, intersection, minus, with_one}
-use Rattle.mat_sets.specs.SetTests.{is_set}
-use Rattle.mat_sets.proofs.Cardinalities.{length-minus-intersection}
-use Rattle.mat_sets.proofs.Filters.{IsRising-filter}
-use Rattle.mat_sets.proofs.Ground.{AreDistinct-rising, IsSet-from, IsSet-subset, below_member}
-use Rattle.mat_sets.proofs.ListParts.{is_member-tail}
-use Rattle.mat_sets.proofs.Members.{IsRising-intersection, IsRising-minus, is_member-filter, is_member-head, place_of_member, same_members, set_members}
-use Rattle.mat_sets.proofs.SetTests.{IsSet-from_test, is_set-with_one}
-use Rattle.mat_sets.proofs.Subsets.{length-subset}
-use Rattle.mat_laws.specs.Matroids.{IsMaximal}
-use Rattle.mat_count.specs.Counts.{is_counted, is_within_caps, IsWithinCaps}
-use Rattle.mat_count.specs.LaminarLaws.{IsWithinCaps-from_test, counted_more, counted_same, test_from-IsWithinCaps}
-use Rattle.mat_count.specs.LaminarMatroids.{IsLaminar}
-use Rattle.mat_witness.specs.BoundParts.{are_covered, caps_sum, is_in_chosen}
-use Rattle.mat_witness.specs.FilledSets.{AreNamed, is_unnamed, largest_filled}
-use Rattle.mat_witness.specs.Parts.{AreSpent}
 use Rattle.mat_witness.proofs.CountedParts.{covered_from}
 use Rattle.mat_witness.proofs.LargestFilled.{IsLargest, Tells, named_for_member, tells_largest}
 

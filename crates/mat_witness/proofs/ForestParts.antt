@@ -1,30 +1,13 @@
 -- What the parts of a graphic matroid show. A forest stays one with an edge that brings a vertex which no edge before it has; and labels that
 -- are the same along each edge of a set are at most as many as the components of any set of these edges.
-use Rattle.std.proofs.Common.{◌≡◌, ◌≢◌, ℕ, ◌-◌, ◌<◌, ◌≤◌, Bool, true, false, not, cond, ◌&&◌, ◌==◌, eqb, ltb, List, [], ◌∷◌, length, map, inl, inr, refl, sym, ap, ◌∙◌, subst, arith}
+use Rattle.mat_witness.proofs.Common.{◌≡◌, ◌≢◌, ℕ, ◌-◌, ◌<◌, ◌≤◌, Bool, true, false, not, cond, ◌&&◌, ◌==◌, eqb, ltb, List, [], ◌∷◌, length, map, inl, inr, refl, sym, ap, ◌∙◌, subst, arith, length-map, cases_eq, eqb-true, eqb-false, eq-eqb, ne_eqb, lt-ltb, and_from, and_parts, or_cases, or_parts}
+use Rattle.mat_witness.proofs.Common.{or_left, or_right, false≢true, not-true, both_ways, IsGraph, ends_of, those_below, is_member, IsRising, IsSet, IsSubset, union, is_set, length-items, below_member, IsRising-nil, IsRising-union, is_member-union, place_of_member, is_member-those_below}
+use Rattle.mat_witness.proofs.Common.{IsSet-from_test, test_from-IsSet, length-subset, union-left, or_none, IsForest, is_forest, is_graphic, least_reached, number_of_components, constant_on_components, least_merged-le, least_merged-fixed, IsForest-from_test, IsForest-more, IsForest-none}
+use Rattle.mat_witness.proofs.Common.{IsForest-subset, test_from-IsForest, least_merged, forest_and_components, least_reached-merged, count_different, have_equal_labels, label_of, bring_vertices, is_end, is_single_end, lists_members, shows_forest}
 use Rattle.std.specs.List.{list_any}
-use Rattle.std.proofs.lemmas.List.{length-map}
-use Rattle.std.proofs.lemmas.Bool.{cases_eq, eqb-true, eqb-false, eq-eqb, ne_eqb, lt-ltb, and_from, and_parts, or_cases, or_parts, or_left, or_right, false≢true, not-true, both_ways}
-use Rattle.mat_sets.specs.Graphs.{IsGraph, ends_of}
-use Rattle.mat_sets.specs.Search.{those_below}
-use Rattle.mat_sets.specs.Sets.{is_member, IsRising, IsSet, IsSubset, union}
-use Rattle.mat_sets.specs.SetTests.{is_set}
-use Rattle.mat_sets.proofs.DistinctLists.{length-items}
-use Rattle.mat_sets.proofs.Ground.{below_member}
 use Rattle.mat_sets.proofs.MappedLists.{is_member-map}
-use Rattle.mat_sets.proofs.Members.{IsRising-nil, IsRising-union, is_member-union, place_of_member}
-use Rattle.mat_sets.proofs.Search.{is_member-those_below}
-use Rattle.mat_sets.proofs.SetTests.{IsSet-from_test, test_from-IsSet}
-use Rattle.mat_sets.proofs.Subsets.{length-subset, union-left}
-use Rattle.mat_sets.proofs.Truths.{or_none}
-use Rattle.mat_graphic.specs.Forests.{IsForest, is_forest, is_graphic, least_reached, number_of_components}
-use Rattle.mat_graphic.specs.ComponentLaws.{constant_on_components, least_merged-le, least_merged-fixed}
-use Rattle.mat_graphic.specs.ForestLaws.{IsForest-from_test, IsForest-more, IsForest-none, IsForest-subset, test_from-IsForest}
-use Rattle.mat_graphic.specs.Mergings.{least_merged}
-use Rattle.mat_graphic.proofs.ComponentCounts.{forest_and_components, least_reached-merged}
-use Rattle.mat_witness.specs.BoundParts.{count_different, have_equal_labels, label_of}
 use Rattle.mat_witness.proofs.ListedMembers.{all_listed}
 use Rattle.mat_witness.proofs.PassingLists.{member_passes}
-use Rattle.mat_witness.specs.FreeParts.{bring_vertices, is_end, is_single_end, lists_members, shows_forest}
 
 -- ---- an edge with a vertex that no edge of a forest has
 

@@ -1,26 +1,7 @@
 -- The lines of a part that shows independence, and of a bound: what is read is spelled so, and what is spelled so is read.
-use Rattle.std.proofs.Common.{◌≡◌, ℕ, ◌*◌, ◌^◌, ◌<◌, ◌≤◌, true, List, [], ◌∷◌, ◌++◌, length, map, Result, Ok}
-use Rattle.std.proofs.Common.{refl, sym, ap, subst, ◌∙◌}
-use Rattle.std.specs.Prelude.{codes}
+use Rattle.mat_witness.proofs.Common.{◌≡◌, ℕ, ◌*◌, ◌^◌, ◌<◌, ◌≤◌, true, List, [], ◌∷◌, ◌++◌, length, map, Result, Ok, refl, sym, ap, subst, ◌∙◌, codes, append-nil, nil_from_length, LinesLeft, Line, ◌>>=◌, repeat_at, members_line, AreLeft, found-same, bind_found, numerals_words, Tree, uniform}
+use Rattle.mat_witness.proofs.Common.{partition, laminar, graphic, gammoid, gf2, counted_at, Fault, IsRead, IsReadAgain, whole_line, is_witnessed, binary_line, free_lines, FreePart, IsFreeFor, count, forest, paths, probes, binary_line_at, free_at, pair_at, path_at, counted_found, counted_again}
 use Rattle.std.specs.List.{All, flat_map}
-use Rattle.std.proofs.lemmas.List.{append-nil, nil_from_length}
-use Rattle.mat_words.specs.Cursors.{LinesLeft}
-use Rattle.mat_words.specs.Lines.{Line}
-use Rattle.mat_words.specs.Steps.{◌>>=◌, repeat_at}
-use Rattle.mat_words.specs.Writing.{members_line}
-use Rattle.mat_words.proofs.LineReading.{AreLeft}
-use Rattle.mat_words.proofs.ReadingSteps.{found-same, bind_found}
-use Rattle.mat_words.proofs.WordReading.{numerals_words}
-use Rattle.mat_any.specs.Trees.{Tree, uniform, partition, laminar, graphic, gammoid, gf2}
-use Rattle.mat_cert.specs.LineReading.{counted_at}
-use Rattle.mat_cert.specs.Faults.{Fault}
-use Rattle.mat_cert.proofs.LineLaws.{IsRead, IsReadAgain}
-use Rattle.mat_cert.proofs.WordLaws.{whole_line}
-use Rattle.mat_witness.specs.Kinds.{is_witnessed}
-use Rattle.mat_witness.specs.Lines.{binary_line, free_lines}
-use Rattle.mat_witness.specs.Parts.{FreePart, IsFreeFor, count, forest, paths, probes}
-use Rattle.mat_witness.specs.Reading.{binary_line_at, free_at, pair_at, path_at}
-use Rattle.mat_cert.proofs.LineLaws.{counted_found, counted_again}
 use Rattle.mat_cert.proofs.ListLaws.{items_found, items_again}
 use Rattle.mat_witness.proofs.WordRows.{IsPairIn, pairs_words, pairs_found, pairs_again, length-pairs_words}
 use Rattle.mat_witness.proofs.PartLines.{IsPathIn, binary_line_found, binary_line_again, path_found, path_again}

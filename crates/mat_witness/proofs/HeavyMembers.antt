@@ -1,18 +1,7 @@
 -- Of a heaviest set of its size the members of at least a given weight are maximal among the elements of at least that weight, where not all
 -- members weigh as much: an element that weighs as much can take the place only of members that weigh no less, so it cannot be added to them.
-use Rattle.std.proofs.Common.{◌≡◌, ℕ, ◌<◌, Bool, true, false, not, ◌&&◌, ltb, List, length, inl, inr, sym, ap, ◌∙◌, arith}
-use Rattle.std.proofs.lemmas.Bool.{cases_Bool, and_parts, and_from, not-true, lt-ltb}
-use Rattle.mat_sets.specs.declared.weight.Weight.{Weight}
-use Rattle.mat_sets.specs.Sets.{is_member, IsRising, IsSubset, intersection, with_one}
-use Rattle.mat_sets.specs.Weights.{◌≼◌, is_below, weight_at}
-use Rattle.mat_sets.proofs.Ground.{AllBelow-member}
-use Rattle.mat_sets.proofs.Members.{set_members, IsRising-intersection}
-use Rattle.mat_sets.proofs.Search.{is_member-those_below}
-use Rattle.mat_sets.proofs.Subsets.{intersection-left, intersection-right, length-subset}
-use Rattle.mat_sets.proofs.WeightOrder.{at_most_trans, not_below_from, not_below_gives}
-use Rattle.mat_sets.specs.FallingWeights.{heavy}
-use Rattle.mat_laws.specs.Heaviest.{IsHeaviest}
-use Rattle.mat_laws.specs.Matroids.{IsMatroid, IsMaximal}
+use Rattle.mat_witness.proofs.Common.{◌≡◌, ℕ, ◌<◌, Bool, true, false, not, ◌&&◌, ltb, List, length, inl, inr, sym, ap, ◌∙◌, arith, cases_Bool, and_parts, and_from, not-true, lt-ltb, Weight, is_member, IsRising, IsSubset, intersection, with_one, ◌≼◌, is_below, weight_at, AllBelow-member, set_members}
+use Rattle.mat_witness.proofs.Common.{IsRising-intersection, is_member-those_below, intersection-left, intersection-right, length-subset, at_most_trans, not_below_from, not_below_gives, heavy, IsHeaviest, IsMatroid, IsMaximal}
 use Rattle.mat_laws.proofs.Independent.{below, full_in_larger, rising}
 use Rattle.mat_laws.proofs.LocallyHeaviest.{addable_is_lightest, exchange_gains_nothing}
 use Rattle.mat_laws.proofs.Symmetric.{replaceable_by, is_member-replaceable, IsRising-replaceable, replaceable_full}

@@ -1,15 +1,7 @@
 -- What the parts of a witness show, by the kind of the matroid: a free part that its set is independent, and a bound part that no independent
 -- subset of its set has more members than its number.
-use Rattle.std.proofs.Common.{◌≡◌, ℕ, ◌≤◌, true, List, length, sym, subst}
-use Rattle.mat_sets.specs.Graphs.{ends_of}
-use Rattle.mat_sets.specs.Sets.{IsSet, IsSubset}
-use Rattle.mat_any.specs.Trees.{Tree, uniform, partition, laminar, graphic, gammoid, gf2}
-use Rattle.mat_any.specs.Trees.{is_independent, IsSound}
-use Rattle.mat_problem.specs.Validity.{IsValidTree}
-use Rattle.mat_witness.specs.BoundParts.{bound_of, shows_bound}
-use Rattle.mat_witness.specs.FreeParts.{shows_free}
-use Rattle.mat_witness.specs.Parts.{BoundPart, FreePart, IsBoundFor, IsFreeFor}
-use Rattle.mat_witness.specs.Parts.{count, forest, paths, probes, spent, labels, gate, zeros}
+use Rattle.mat_witness.proofs.Common.{◌≡◌, ℕ, ◌≤◌, true, List, length, sym, subst, ends_of, IsSet, IsSubset, Tree, uniform, partition, laminar, graphic, gammoid, gf2, is_independent, IsSound, IsValidTree, bound_of, shows_bound, shows_free, BoundPart, FreePart, IsBoundFor, IsFreeFor, count, forest}
+use Rattle.mat_witness.proofs.Common.{paths, probes, spent, labels, gate, zeros}
 use Rattle.mat_witness.proofs.ColumnParts.{probes_are_shown, zeros_bound_holds}
 use Rattle.mat_witness.proofs.CountedParts.{counted_bound_holds, uniform_bound_holds}
 use Rattle.mat_witness.proofs.ForestParts.{forest_is_shown, labels_bound_holds}

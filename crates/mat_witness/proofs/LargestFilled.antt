@@ -1,13 +1,8 @@
 -- The largest filled set that holds an element: of the listed sets that hold it, each two are nested, so that it contains all of them that are
 -- filled; and it is the largest for each of its own members.
-use Rattle.std.proofs.Common.{◌≡◌, ◌≢◌, ℕ, zero, suc, ◌<◌, ◌≤◌, true, false, ◌&&◌, Option, Some, None, List, [], length, get_or, inl, inr, sym, ap, subst, arith}
-use Rattle.std.proofs.lemmas.Bool.{and_from, and_parts, both_ways, cases_Bool, cases_eq, cases_lt, cases_order, le-ltb, lt-ltb}
-use Rattle.mat_sets.specs.Sets.{is_member, IsRising, IsSubset}
-use Rattle.mat_sets.proofs.Members.{some_from_member}
-use Rattle.mat_sets.proofs.Subsets.{same_size_subset, subset_or}
+use Rattle.mat_witness.proofs.Common.{◌≡◌, ◌≢◌, ℕ, zero, suc, ◌<◌, ◌≤◌, true, false, ◌&&◌, Option, Some, None, List, [], length, get_or, inl, inr, sym, ap, subst, arith, and_from, and_parts, both_ways, cases_Bool, cases_eq, cases_lt, cases_order, le-ltb, lt-ltb, is_member, IsRising, IsSubset}
+use Rattle.mat_witness.proofs.Common.{some_from_member, same_size_subset, subset_or, test_from-Crosses, is_filled, larger_named, largest_filled}
 use Rattle.mat_count.specs.Laminar.{Crosses, IsLaminarFamily}
-use Rattle.mat_count.specs.LaminarLaws.{test_from-Crosses}
-use Rattle.mat_witness.specs.FilledSets.{is_filled, larger_named, largest_filled}
 
 -- ---- which set is the largest
 

@@ -1,21 +1,9 @@
 -- Taking a forest's leaves out, one edge after the other. The edges that are taken out, from the last one on, are in an order in which each
 -- brings a vertex: the leaf that it had is an end of no edge that was left.
-use Rattle.std.proofs.Common.{◌≡◌, ◌≢◌, ℕ, ◌+◌, ◌<◌, ◌≤◌, Bool, true, false, not, ◌&&◌, ◌||◌, cond, eqb, get_or, List, [], ◌∷◌, ◌++◌, length, take, drop, map, reverse, inl, inr, refl, sym, ap, ◌∙◌, subst, arith}
+use Rattle.mat_witness.proofs.Common.{◌≡◌, ◌≢◌, ℕ, ◌+◌, ◌<◌, ◌≤◌, Bool, true, false, not, ◌&&◌, ◌||◌, cond, eqb, get_or, List, [], ◌∷◌, ◌++◌, length, take, drop, map, reverse, inl, inr, refl, sym, ap, ◌∙◌, subst, arith, cases_Bool, cases_eq, and_from, both_ways, eqb-true, eqb-false, eq-eqb, ne_eqb}
+use Rattle.mat_witness.proofs.Common.{false_from_ne_true, not_from_false, or_cases, or_from, or_left, or_right, false≢true, get_or_default_zero, length-map, length-reverse, reverse-append, All-cons, IsGraph, ends_of, is_member, IsRising, IsSubset, AreDistinct, without_one, length-without_one}
+use Rattle.mat_witness.proofs.Common.{IsRising-without_one, is_member-without_one, written_back, IsSubset-trans, without_one-IsSubset, is_graphic, IsForest-subset, IsSumTable, at_ends, end_sum, bring_vertices, is_end, is_single_end, lists_members, shows_forest}
 use Rattle.std.specs.List.{All, list_any}
-use Rattle.std.proofs.lemmas.Bool.{cases_Bool, cases_eq, and_from, both_ways, eqb-true, eqb-false, eq-eqb, ne_eqb, false_from_ne_true, not_from_false, or_cases, or_from, or_left, or_right, false≢true}
-use Rattle.std.proofs.lemmas.Grind.{get_or_default_zero}
-use Rattle.std.proofs.lemmas.List.{length-map, length-reverse, reverse-append}
-use Rattle.std.proofs.lemmas.List.Elements.{All-cons}
-use Rattle.mat_sets.specs.Graphs.{IsGraph, ends_of}
-use Rattle.mat_sets.specs.Sets.{is_member, IsRising, IsSubset, AreDistinct, without_one}
-use Rattle.mat_sets.proofs.Cardinalities.{length-without_one}
-use Rattle.mat_sets.proofs.Members.{IsRising-without_one, is_member-without_one}
-use Rattle.mat_sets.proofs.Steps.{written_back}
-use Rattle.mat_sets.proofs.Subsets.{IsSubset-trans, without_one-IsSubset}
-use Rattle.mat_graphic.specs.Forests.{is_graphic}
-use Rattle.mat_graphic.specs.ForestLaws.{IsForest-subset}
-use Rattle.mat_witness.specs.EndSums.{IsSumTable, at_ends, end_sum}
-use Rattle.mat_witness.specs.FreeParts.{bring_vertices, is_end, is_single_end, lists_members, shows_forest}
 use Rattle.mat_witness.proofs.Leaves.{IsLeaf, end_sum-member, end_sum-without, leaf_of, no_leaf, one}
 use Rattle.mat_witness.proofs.ListedMembers.{lists_members-from}
 use Rattle.mat_witness.proofs.SumTables.{IsFine, IsForestOf-from_test, fine_member}

@@ -1,17 +1,9 @@
 -- Leaves of forests: vertices that are an end of one edge. A forest that is not empty has one, as its edges touch more vertices than there
 -- are edges, and the degrees add up to twice the number of the edges.
-use Rattle.std.proofs.Common.{◌≡◌, ◌≢◌, ℕ, zero, suc, ◌+◌, ◌*◌, ◌<◌, ◌≤◌, true, cond, eqb, ltb, List, [], ◌∷◌, length, inl, inr, refl, sym, ap, ◌∙◌, subst, arith}
-use Rattle.std.proofs.lemmas.Bool.{cases_Bool, cases_eq, cases_lt, eqb-true, eq-eqb, ne_eqb, lt-ltb, le-ltb, and_from, or_cases, or_right, false≢true}
-use Rattle.mat_sets.specs.Search.{those_below}
-use Rattle.mat_sets.specs.Sets.{is_member, IsRising, RisesFrom, without_one}
+use Rattle.mat_witness.proofs.Common.{◌≡◌, ◌≢◌, ℕ, zero, suc, ◌+◌, ◌*◌, ◌<◌, ◌≤◌, true, cond, eqb, ltb, List, [], ◌∷◌, length, inl, inr, refl, sym, ap, ◌∙◌, subst, arith, cases_Bool, cases_eq, cases_lt, eqb-true, eq-eqb, ne_eqb, lt-ltb, le-ltb, and_from, or_cases, or_right, false≢true, those_below}
+use Rattle.mat_witness.proofs.Common.{is_member, IsRising, RisesFrom, without_one, is_member-head, missing_below, without_one-missing, RisesFrom-weaken, some_from_member, IsSet-those_below, is_member-those_below, IsForest, in_tail, AreEndsBelow, at_ends, end_sum}
 use Rattle.mat_sets.proofs.Counting.{IsCounted, IsCounted-start, IsCounted-put, IsCounted-skip}
-use Rattle.mat_sets.proofs.Members.{is_member-head, missing_below, without_one-missing, RisesFrom-weaken, some_from_member}
-use Rattle.mat_sets.proofs.Search.{IsSet-those_below, is_member-those_below}
-use Rattle.mat_graphic.specs.Forests.{IsForest}
-use Rattle.mat_graphic.specs.ComponentLaws.{in_tail}
-use Rattle.mat_graphic.proofs.ComponentCounts.{AreEndsBelow}
 use Rattle.mat_graphic.proofs.ForestSizes.{AreEndsIn, length-forest_inside}
-use Rattle.mat_witness.specs.EndSums.{at_ends, end_sum}
 
 abbrev pub one : ℕ → ℕ
 one e = 1

@@ -1,3 +1,4 @@
+pub mod Common
 pub mod BroughtVertices
 pub mod ComponentLabels
 pub mod ForestParts

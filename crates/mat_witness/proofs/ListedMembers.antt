@@ -1,16 +1,7 @@
 -- A list has the members of a set, each once, exactly where it has as many items and the set of its items is this one.
-use Rattle.std.proofs.Common.{◌≡◌, ℕ, ◌≤◌, Bool, true, ◌&&◌, ◌==◌, get_or, List, [], ◌∷◌, length, refl, sym, ap, ◌∙◌, arith}
+use Rattle.mat_witness.proofs.Common.{◌≡◌, ℕ, ◌≤◌, Bool, true, ◌&&◌, ◌==◌, get_or, List, [], ◌∷◌, length, refl, sym, ap, ◌∙◌, arith, and_from, and_parts, eqb-true, eq-eqb, is_member, IsRising, IsSubset, AreDistinct, union, are_distinct, AreDistinct-length, is_member-items, items-rise}
+use Rattle.mat_witness.proofs.Common.{length-distinct, is_member-get_or, are_distinct-from, are_distinct-gives, same_size_subset, same_truth, lists_members}
 use Rattle.std.specs.List.{list_all}
-use Rattle.std.proofs.lemmas.Bool.{and_from, and_parts, eqb-true, eq-eqb}
-use Rattle.mat_sets.specs.Sets.{is_member, IsRising, IsSubset, AreDistinct, union}
-use Rattle.mat_sets.specs.SetTests.{are_distinct}
-use Rattle.mat_sets.proofs.DistinctLists.{AreDistinct-length, is_member-items, items-rise}
-use Rattle.mat_sets.proofs.Ground.{length-distinct}
-use Rattle.mat_sets.proofs.Members.{is_member-get_or}
-use Rattle.mat_sets.proofs.SetTests.{are_distinct-from, are_distinct-gives}
-use Rattle.mat_sets.proofs.Subsets.{same_size_subset}
-use Rattle.mat_sets.proofs.Truths.{same_truth}
-use Rattle.mat_witness.specs.FreeParts.{lists_members}
 use Rattle.mat_witness.proofs.PassingLists.{member_passes, passes_each}
 
 -- ---- tests of each item

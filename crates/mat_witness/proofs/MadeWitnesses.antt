@@ -1,40 +1,12 @@
 -- The parts that are made are those of a witness: of a rung's set the members in each demanded set are maximal there, so a part that bounds the
 -- rank by their number meets the demand; and the numbers of both parts for the cut are the ranks, which add up to the last rung.
-use Rattle.std.proofs.Common.{◌≡◌, ℕ, ◌+◌, ◌<◌, ◌≤◌, Bool, true, List, [], ◌∷◌, ◌++◌, length, map, take, drop, get_or}
-use Rattle.std.proofs.Common.{refl, sym, subst, ap, ◌∙◌, arith}
+use Rattle.mat_witness.proofs.Common.{◌≡◌, ℕ, ◌+◌, ◌<◌, ◌≤◌, Bool, true, List, [], ◌∷◌, ◌++◌, length, map, take, drop, get_or, refl, sym, subst, ap, ◌∙◌, arith, nat_lt, and_from, and_parts, eq-eqb, ltb-true, get_or-map, get_or_default, length-map, map-append, take_more, All-filter, All-map}
+use Rattle.mat_witness.proofs.Common.{filter_passes, most_elements, IsSet, all_below, is_member, minus, weight_at, Weight, is_member-all_below, IsSet-those_below, same_from, falling_weights, heavy, IsHeaviest, IsMatroid, rank, Tree, element_count, is_independent, tree_laws, IsRanged, intersect}
+use Rattle.mat_witness.proofs.Common.{last_rung, PricedRung, pair, IsValid, IsValidTree, IsSoundInstance-valid, Most, demand_for, has_rung, is_witnessed, is_witnessed_pair, AreRungBounds, AreWitnessed, IsFilled, IsMeeting, IsRungWitness, IsSplit, IsWitnessed, BoundPart, WitnessParts, AreBoundsFor}
+use Rattle.mat_witness.proofs.Common.{Demand, IsRightRungOf, IsShown, IsWitness, IsWitnessFor, are_met, bounds_common_sets, demand_at, demands_of, demands_under, shows_common_set, is_priced, meets, rung_at, bound_part}
 use Rattle.std.specs.List.{All, AllZip, filter}
-use Rattle.std.specs.Prelude.{nat_lt}
-use Rattle.std.proofs.lemmas.Bool.{and_from, and_parts, eq-eqb, ltb-true}
-use Rattle.std.proofs.lemmas.List.{get_or-map, get_or_default, length-map, map-append, take_more}
-use Rattle.std.proofs.lemmas.List.Elements.{All-filter, All-map, filter_passes}
-use Rattle.mat_sets.specs.Limits.{most_elements}
-use Rattle.mat_sets.specs.Sets.{IsSet, all_below, is_member, minus}
-use Rattle.mat_sets.specs.Weights.{weight_at}
-use Rattle.mat_sets.specs.declared.weight.Weight.{Weight}
-use Rattle.mat_sets.proofs.Ground.{is_member-all_below}
-use Rattle.mat_sets.proofs.Search.{IsSet-those_below}
-use Rattle.mat_sets.proofs.WeightOrder.{same_from}
-use Rattle.mat_sets.specs.FallingWeights.{falling_weights, heavy}
-use Rattle.mat_laws.specs.Heaviest.{IsHeaviest}
-use Rattle.mat_laws.specs.Matroids.{IsMatroid}
-use Rattle.mat_laws.specs.Ranks.{rank}
-use Rattle.mat_any.specs.Trees.{Tree, element_count, is_independent}
-use Rattle.mat_any.specs.TreeLaws.{tree_laws}
-use Rattle.mat_cert.specs.Certificates.{IsRanged, intersect, last_rung}
-use Rattle.mat_cert.specs.declared.answer.PricedRung.{PricedRung}
-use Rattle.mat_problem.specs.Instances.{pair}
-use Rattle.mat_problem.specs.Validity.{IsValid, IsValidTree}
 use Rattle.mat_problem.specs.Soundness.{IsSoundInstance}
-use Rattle.mat_problem.proofs.SoundProblems.{IsSoundInstance-valid}
 use Rattle.mat_witness.specs.declared.demands.Demand.{Demand as Asked}
-use Rattle.mat_witness.specs.declared.witness.Most.{Most}
-use Rattle.mat_witness.specs.Demands.{demand_for}
-use Rattle.mat_witness.specs.Kinds.{has_rung, is_witnessed, is_witnessed_pair}
-use Rattle.mat_witness.specs.Making.{AreRungBounds, AreWitnessed, IsFilled, IsMeeting, IsRungWitness, IsSplit, IsWitnessed}
-use Rattle.mat_witness.specs.Parts.{BoundPart, WitnessParts}
-use Rattle.mat_witness.specs.Shown.{AreBoundsFor, Demand, IsRightRungOf, IsShown, IsWitness, IsWitnessFor, are_met, bounds_common_sets, demand_at}
-use Rattle.mat_witness.specs.Shown.{demands_of, demands_under, shows_common_set, is_priced, meets, rung_at}
-use Rattle.mat_witness.specs.Views.{bound_part}
 use Rattle.mat_witness.proofs.HeavyMembers.{heavy_members_maximal}
 use Rattle.mat_witness.proofs.ListedMembers.{list_all-from}
 

@@ -1,10 +1,6 @@
 -- Members that are marked one after the other, and how many of them there are.
-use Rattle.std.proofs.Common.{◌≡◌, ℕ, ◌+◌, ◌<◌, ◌≤◌, true, false, ◌||◌, List, length, get_or, take, ap, arith}
-use Rattle.std.proofs.lemmas.List.{length-take}
+use Rattle.mat_witness.proofs.Common.{◌≡◌, ℕ, ◌+◌, ◌<◌, ◌≤◌, true, false, ◌||◌, List, length, get_or, take, ap, arith, length-take, is_member, intersection, with_one, set_members, intersection-more, is_member-take_more}
 use Rattle.mat_sets.specs.Families.{indicator}
-use Rattle.mat_sets.specs.Sets.{is_member, intersection, with_one}
-use Rattle.mat_sets.proofs.Members.{set_members}
-use Rattle.mat_sets.proofs.Steps.{intersection-more, is_member-take_more}
 use Rattle.mat_count.proofs.ClassTables.{length-intersection}
 
 -- one more mark

@@ -1,28 +1,12 @@
 -- Where the bounds meet the demands of a half, the set is heaviest of its size under it: at each value t of a member of another independent set
 -- of this size, that set has no more members that weigh at least t than the set has, since all members of the set weigh so much or a bound is
 -- there; so it is as heavy.
-use Rattle.std.proofs.Common.{◌≡◌, ℕ, ◌<◌, ◌≤◌, Bool, true, leb, ltb, List, [], ◌∷◌, ◌++◌, length, map, drop, filter, inl, inr, refl, sym, ap}
-use Rattle.std.proofs.Common.{subst, arith}
-use Rattle.std.proofs.lemmas.Bool.{and_parts, cases_Bool, cases_lt, leb-true, lt-ltb}
+use Rattle.mat_witness.proofs.Common.{◌≡◌, ℕ, ◌<◌, ◌≤◌, Bool, true, leb, ltb, List, [], ◌∷◌, ◌++◌, length, map, drop, filter, inl, inr, refl, sym, ap, subst, arith, and_parts, cases_Bool, cases_lt, leb-true, lt-ltb, is_member, IsSet, IsSubset, intersection, weight_at, Weight, below_member}
+use Rattle.mat_witness.proofs.Common.{IsRising-intersection, IsSet-those_below, intersection-left, intersection-right, length-subset, IsHeaviest, IsMatroid, falling_weights, heavy, Tree, element_count, is_independent, IsSound, tree_laws, IsValidTree, bound_of, shows_bound, BoundPart, AreBoundsFor}
+use Rattle.mat_witness.proofs.Common.{Demand, are_met, demand_at, demands_under, meets}
 use Rattle.std.specs.List.{AllByRecursion}
-use Rattle.mat_sets.specs.Sets.{is_member, IsSet, IsSubset, intersection}
-use Rattle.mat_sets.specs.Weights.{weight_at}
-use Rattle.mat_sets.specs.declared.weight.Weight.{Weight}
-use Rattle.mat_sets.proofs.Ground.{below_member}
-use Rattle.mat_sets.proofs.Members.{IsRising-intersection}
-use Rattle.mat_sets.proofs.Search.{IsSet-those_below}
-use Rattle.mat_sets.proofs.Subsets.{intersection-left, intersection-right, length-subset}
-use Rattle.mat_laws.specs.Heaviest.{IsHeaviest}
-use Rattle.mat_laws.specs.Matroids.{IsMatroid}
-use Rattle.mat_sets.specs.FallingWeights.{falling_weights, heavy}
 use Rattle.mat_union.proofs.Dominated.{dominated, weighs}
 use Rattle.mat_sets.proofs.FallingWeights.{IsIn, falling_weights-holds, heavy_members, place-IsIn}
-use Rattle.mat_any.specs.Trees.{Tree, element_count, is_independent, IsSound}
-use Rattle.mat_any.specs.TreeLaws.{tree_laws}
-use Rattle.mat_problem.specs.Validity.{IsValidTree}
-use Rattle.mat_witness.specs.BoundParts.{bound_of, shows_bound}
-use Rattle.mat_witness.specs.Parts.{BoundPart}
-use Rattle.mat_witness.specs.Shown.{AreBoundsFor, Demand, are_met, demand_at, demands_under, meets}
 use Rattle.mat_witness.proofs.KindParts.{bound_holds}
 
 -- no independent set has more members that weigh at least t than X has

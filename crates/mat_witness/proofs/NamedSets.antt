@@ -1,21 +1,11 @@
 -- The tables of the sets that are named for each element: how each loop begins and goes on.
-use Rattle.std.proofs.Common.{◌≡◌, ◌≢◌, ℕ, ◌+◌, ◌<◌, ◌≤◌, Bool, true, false, cond, not, ◌⊎◌, eqb, leb, ltb, Option, Some, None, List, [], length, get_or, set, take, replicate, inl, inr, refl, sym, ap, subst, ◌∙◌, arith}
+use Rattle.mat_witness.proofs.Common.{◌≡◌, ◌≢◌, ℕ, ◌+◌, ◌<◌, ◌≤◌, Bool, true, false, cond, not, ◌⊎◌, eqb, leb, ltb, Option, Some, None, List, [], length, get_or, set, take, replicate, inl, inr, refl, sym, ap, subst, ◌∙◌, arith, both_ways, cases_eq, eq-eqb, eqb-true, le-leb, lt-leb, ne_eqb, or_cases}
+use Rattle.mat_witness.proofs.Common.{or_left, or_right, get_or-replicate, get_or-set_other, get_or-set_same, All-replicate, IfSome, same_Some, AllBelow, is_member, IsRising, IsSet, intersection, with_one, below_member, filter_same_at, is_member-with_one, IsRising-with_one, is_member-take_more}
+use Rattle.mat_witness.proofs.Common.{is_member-take_next, AllBelow-at, or_none, AreLargerNamed, AreLargestNamed, AreListed, AreNamed, is_filled, is_unnamed, larger_named, largest_filled, size_named}
 use Rattle.std.proofs.Math.Numerals.{add-one}
-use Rattle.std.proofs.lemmas.Bool.{both_ways, cases_eq, eq-eqb, eqb-true, le-leb, lt-leb, ne_eqb, or_cases, or_left, or_right}
-use Rattle.std.proofs.lemmas.List.{get_or-replicate, get_or-set_other, get_or-set_same}
-use Rattle.std.proofs.lemmas.List.Elements.{All-replicate}
 use Rattle.std.specs.List.{filter}
-use Rattle.std.specs.Prelude.{IfSome}
 use Rattle.std.specs.Option.{is_some}
-use Rattle.std.proofs.lemmas.Option.{same_Some}
-use Rattle.mat_sets.specs.Sets.{AllBelow, is_member, IsRising, IsSet, intersection, with_one}
 use Rattle.mat_sets.proofs.Equalities.{intersection-commute}
-use Rattle.mat_sets.proofs.Ground.{below_member}
-use Rattle.mat_sets.proofs.Members.{filter_same_at, is_member-with_one, IsRising-with_one}
-use Rattle.mat_sets.proofs.Steps.{is_member-take_more, is_member-take_next}
-use Rattle.mat_sets.proofs.Sums.{AllBelow-at}
-use Rattle.mat_sets.proofs.Truths.{or_none}
-use Rattle.mat_witness.specs.FilledSets.{AreLargerNamed, AreLargestNamed, AreListed, AreNamed, is_filled, is_unnamed, larger_named, largest_filled, size_named}
 
 -- ---- the item at a place
 

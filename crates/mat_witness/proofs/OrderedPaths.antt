@@ -1,33 +1,13 @@
 -- Disjoint paths to the vertices of an independent set, in the order of the set: there are as many as members, they end at different vertices,
 -- so one ends at each. A table has the place of each path at its end.
-use Rattle.std.proofs.Common.{◌≡◌, ◌≢◌, ℕ, zero, suc, ◌+◌, ◌<◌, ◌≤◌, Bool, true, false, ◌&&◌, cond, eqb, List, [], ◌∷◌, length, map, get_or, set, reverse, inl, inr, refl, sym, ap, ◌∙◌, subst, arith, get_or-set_other, get_or-set_same}
-use Rattle.std.proofs.lemmas.Bool.{and_from, both_ways, cases_lt, eq-eqb, eqb-true, ne_eqb}
-use Rattle.std.proofs.lemmas.List.{length-map, reverse-reverse}
-use Rattle.std.proofs.lemmas.List.Elements.{All-weaker}
-use Rattle.std.proofs.lemmas.List.Sums.{list_all-from_AllPass}
-use Rattle.std.proofs.lemmas.Slice.Eq.{bytes_eq-Decides}
+use Rattle.mat_witness.proofs.Common.{◌≡◌, ◌≢◌, ℕ, zero, suc, ◌+◌, ◌<◌, ◌≤◌, Bool, true, false, ◌&&◌, cond, eqb, List, [], ◌∷◌, length, map, get_or, set, reverse, inl, inr, refl, sym, ap, ◌∙◌, subst, arith, get_or-set_other, get_or-set_same, and_from, both_ways, cases_lt, eq-eqb, eqb-true, ne_eqb}
+use Rattle.mat_witness.proofs.Common.{length-map, reverse-reverse, All-weaker, list_all-from_AllPass, bytes_eq-Decides, is_member, union, AllBelow, AreDistinct, IsRising, IsSet, are_distinct, length-items, AllBelow-from_members, AllBelow-member, AllBelow-subset, length-distinct, is_member-get_or}
+use Rattle.mat_witness.proofs.Common.{is_member-union, place_of_member, IsRising-nil, IsRising-union, are_distinct-from, length-subset, same_size_subset, AllBelow-at, or_none, first_of, last_of, AreDisjointPaths, IsLinking, IsPath, IsPathBetween, ends_are_targets, gammoid_laws, is_gammoid, is_path}
+use Rattle.mat_witness.proofs.Common.{vertices_of, IsGammoid, vertex_member, AreDistinct-vertices_of, is_path-from, path_below, length-vertices_of, shows_paths, path_to}
 use Rattle.std.specs.List.{All, concat, list_all}
 use Rattle.std.specs.Str.{bytes_eq}
-use Rattle.mat_sets.specs.Sets.{is_member, union, AllBelow, AreDistinct, IsRising, IsSet}
-use Rattle.mat_sets.specs.SetTests.{are_distinct}
-use Rattle.mat_sets.proofs.DistinctLists.{length-items}
-use Rattle.mat_sets.proofs.Ground.{AllBelow-from_members, AllBelow-member, AllBelow-subset, length-distinct}
-use Rattle.mat_sets.proofs.Members.{is_member-get_or, is_member-union, place_of_member, IsRising-nil, IsRising-union}
-use Rattle.mat_sets.proofs.SetTests.{are_distinct-from}
-use Rattle.mat_sets.proofs.Subsets.{length-subset, same_size_subset}
-use Rattle.mat_sets.proofs.Sums.{AllBelow-at}
-use Rattle.mat_sets.proofs.Truths.{or_none}
-use Rattle.mat_flow.specs.Paths.{first_of, last_of, AreDisjointPaths, IsLinking, IsPath, IsPathBetween}
-use Rattle.mat_flow.proofs.PathChoiceLaws.{ends_are_targets}
 use Rattle.mat_flow.proofs.PathFamilyLaws.{AreDisjointPaths-routes, AreDistinct-ends, AreRoutes-paths, ends_of, is_member-ends_of, last_of-paths_to, paths_to, route_to}
-use Rattle.mat_linked.specs.GammoidLaws.{gammoid_laws}
-use Rattle.mat_linked.specs.Gammoids.{is_gammoid, is_path, vertices_of, IsGammoid}
-use Rattle.mat_linked.specs.LinkedSetLaws.{vertex_member, AreDistinct-vertices_of}
-use Rattle.mat_linked.specs.PathSearchLaws.{is_path-from, path_below}
 use Rattle.mat_linked.proofs.LinkedAnswers.{is_gammoid-counted}
-use Rattle.mat_linked.proofs.VertexSets.{length-vertices_of}
-use Rattle.mat_witness.specs.FreeParts.{shows_paths}
-use Rattle.mat_witness.specs.GammoidSteps.{path_to}
 use Rattle.mat_witness.proofs.PathParts.{is_source_path}
 
 -- ---- places

@@ -1,15 +1,8 @@
 -- A number has a one where the others have none exactly where not all of its ones are among theirs.
-use Rattle.std.proofs.Common.{◌≡◌, ◌≢◌, ℕ, ◌+◌, ◌^◌, ◌<◌, Bool, true, false, cond, eqb, List, length, get_or, bit_and, bit_or, inl, inr, sym, ap, ◌∙◌, arith}
+use Rattle.mat_witness.proofs.Common.{◌≡◌, ◌≢◌, ℕ, ◌+◌, ◌^◌, ◌<◌, Bool, true, false, cond, eqb, List, length, get_or, bit_and, bit_or, inl, inr, sym, ap, ◌∙◌, arith, cases_eq, both_ways, true_from_ne_false, false_from_ne_true, eq-eqb, eqb-true, ne_eqb, cond-true, cond-false, and_le_l, bit_at_and}
+use Rattle.mat_witness.proofs.Common.{bit_at_or, same_from_bits_below, all_below, some_below_gives, some_below_none, bit_cases, has_own_one, AreOnesOfOthers}
 use Rattle.std.specs.Int.{bit_at}
 use Rattle.std.specs.List.{list_all}
-use Rattle.std.proofs.lemmas.Bool.{cases_eq, both_ways, true_from_ne_false, false_from_ne_true, eq-eqb, eqb-true, ne_eqb, cond-true, cond-false}
-use Rattle.std.proofs.lemmas.Nat.{and_le_l}
-use Rattle.std.proofs.lemmas.Nat.Bits.{bit_at_and, bit_at_or, same_from_bits_below}
-use Rattle.mat_sets.specs.Sets.{all_below}
-use Rattle.mat_sets.proofs.Search.{some_below_gives, some_below_none}
-use Rattle.mat_gf2.specs.LeadingBitLaws.{bit_cases}
-use Rattle.mat_witness.specs.BoundParts.{has_own_one}
-use Rattle.mat_witness.specs.Rows.{AreOnesOfOthers}
 use Rattle.mat_witness.proofs.PassingLists.{all_below_pass, passes_below, below_next}
 
 pub AreOnesOfOthers-own : (numbers : List ℕ) (place j ones : ℕ) → AreOnesOfOthers numbers place j ones → j ≡ place

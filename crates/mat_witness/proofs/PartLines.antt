@@ -1,29 +1,8 @@
 -- The lines of one part of a witness: what is read is spelled so, and what is spelled so is read.
-use Rattle.std.proofs.Common.{◌≡◌, ℕ, ◌^◌, ◌<◌, ◌≤◌, pos, true, List, [], ◌∷◌, ◌++◌, length, Ok}
-use Rattle.std.proofs.Common.{refl, sym, subst, ◌∙◌, arith}
-use Rattle.std.specs.Prelude.{codes}
-use Rattle.std.proofs.lemmas.Bool.{and_from}
-use Rattle.std.proofs.lemmas.List.{append-nil, length-map}
-use Rattle.mat_sets.specs.Sets.{AllBelow}
-use Rattle.mat_words.specs.Binary.{binary}
-use Rattle.mat_words.specs.Cursors.{LinesLeft}
-use Rattle.mat_words.specs.Lines.{Line}
-use Rattle.mat_words.specs.Numbers.{numeral, numerals}
+use Rattle.mat_witness.proofs.Common.{◌≡◌, ℕ, ◌^◌, ◌<◌, ◌≤◌, pos, true, List, [], ◌∷◌, ◌++◌, length, Ok, refl, sym, subst, ◌∙◌, arith, codes, and_from, append-nil, length-map, AllBelow, binary, LinesLeft, Line, numeral, numerals, ◌>>=◌, repeat_at, is_word, members_line, AreLeft, keyed_again}
+use Rattle.mat_witness.proofs.Common.{found-same, bind_found, told_found, told_again, below_again, numerals_words, below_at, counted_at, keyed_at, told, kind_of, IsRead, IsReadAgain, line_read, below_read, then_words, whole_line, binary_line, binary_line_at, path_at, counted_found, counted_again}
 use Rattle.mat_words.specs.Reading as any_text
-use Rattle.mat_words.specs.Steps.{◌>>=◌, repeat_at}
-use Rattle.mat_words.specs.Words.{is_word}
-use Rattle.mat_words.specs.Writing.{members_line}
 use Rattle.mat_words.proofs.BinaryLaws.{binary_found, binary_again, binary_word}
-use Rattle.mat_words.proofs.LineReading.{AreLeft, keyed_again}
-use Rattle.mat_words.proofs.ReadingSteps.{found-same, bind_found, told_found, told_again}
-use Rattle.mat_words.proofs.WordReading.{below_again, numerals_words}
-use Rattle.mat_cert.specs.LineReading.{below_at, counted_at, keyed_at}
-use Rattle.mat_cert.specs.Faults.{told, kind_of}
-use Rattle.mat_cert.proofs.LineLaws.{IsRead, IsReadAgain, line_read}
-use Rattle.mat_cert.proofs.WordLaws.{below_read, then_words, whole_line}
-use Rattle.mat_witness.specs.Lines.{binary_line}
-use Rattle.mat_witness.specs.Reading.{binary_line_at, path_at}
-use Rattle.mat_cert.proofs.LineLaws.{counted_found, counted_again}
 use Rattle.mat_witness.proofs.WordRows.{numbers_found, numbers_again}
 
 -- ---- a line of a keyword and a binary number

@@ -1,19 +1,9 @@
 -- The text of the parts of a witness, as it is written piece by piece.
-use Rattle.std.proofs.Common.{◌≡◌, ℕ, zero, suc, ◌+◌, ◌<◌, ◌≤◌, pos, List, [], ◌∷◌, ◌++◌, length, map, take, drop, get_or}
-use Rattle.std.proofs.Common.{refl, sym, ap, ◌∙◌, append_assoc, arith}
-use Rattle.std.specs.Prelude.{replicate}
+use Rattle.mat_witness.proofs.Common.{◌≡◌, ℕ, zero, suc, ◌+◌, ◌<◌, ◌≤◌, pos, List, [], ◌∷◌, ◌++◌, length, map, take, drop, get_or, refl, sym, ap, ◌∙◌, append_assoc, arith, replicate, append-nil, flat_map_more, take_all, take_more, length-map, length-drop, Line, text_of, numeral, members_line}
+use Rattle.mat_witness.proofs.Common.{text_of-append, Tree, bound_lines, bounds_lines, BoundPart, AreBoundsFor}
 use Rattle.std.specs.List.{flat_map}
-use Rattle.std.proofs.lemmas.List.{append-nil, flat_map_more, take_all, take_more, length-map, length-drop}
-use Rattle.mat_words.specs.Lines.{Line, text_of}
-use Rattle.mat_words.specs.Numbers.{numeral}
-use Rattle.mat_words.specs.Writing.{members_line}
-use Rattle.mat_words.proofs.LineLemmas.{text_of-append}
 use Rattle.mat_words.proofs.WrittenLines.{item_written, line_written}
-use Rattle.mat_any.specs.Trees.{Tree}
 use Rattle.mat_witness.specs.BoundRows.{row_trees}
-use Rattle.mat_witness.specs.Lines.{bound_lines, bounds_lines}
-use Rattle.mat_witness.specs.Parts.{BoundPart}
-use Rattle.mat_witness.specs.Shown.{AreBoundsFor}
 use Rattle.mat_witness.proofs.WordRows.{both}
 
 -- a line of a keyword and one word

@@ -1,11 +1,6 @@
 -- A test that all items of a list pass, by places.
-use Rattle.std.proofs.Common.{◌≡◌, ℕ, suc, ◌+◌, ◌<◌, Bool, true, false, List, [], ◌∷◌, length, get_or, inl, inr, refl, ap, ◌∙◌, subst, arith}
+use Rattle.mat_witness.proofs.Common.{◌≡◌, ℕ, suc, ◌+◌, ◌<◌, Bool, true, false, List, [], ◌∷◌, length, get_or, inl, inr, refl, ap, ◌∙◌, subst, arith, cases_Bool, cases_lt, both_ways, and_from, list_all_at, is_member, all_below, length-all_below, get_or-all_below, place_of_member}
 use Rattle.std.specs.List.{list_all}
-use Rattle.std.proofs.lemmas.Bool.{cases_Bool, cases_lt, both_ways, and_from}
-use Rattle.std.proofs.lemmas.List.Folds.{list_all_at}
-use Rattle.mat_sets.specs.Sets.{is_member, all_below}
-use Rattle.mat_sets.proofs.Ground.{length-all_below, get_or-all_below}
-use Rattle.mat_sets.proofs.Members.{place_of_member}
 
 pub fails_below : (n : ℕ) (test : ℕ → Bool) (i : ℕ) → i < n → test i ≡ false → list_all test (all_below n) ≡ false
 fails_below n test i l h =

@@ -1,25 +1,12 @@
 -- Paths that pass the test show a set independent, as they are what its independence asks for. And vertices that close the reached ones off
 -- are a separator: along a path from a source, each vertex is reached until one is of the closing set.
-use Rattle.std.proofs.Common.{◌≡◌, ℕ, ◌<◌, ◌≤◌, Bool, true, false, not, ◌&&◌, ◌||◌, eqb, List, [], ◌∷◌, length, map, inl, inr, refl, sym, ap, ◌∙◌, arith}
-use Rattle.std.proofs.lemmas.Bool.{and_left, and_parts, and_right, both_ways, eqb-true, false≢true, not-true, or_cases}
-use Rattle.std.proofs.lemmas.List.Elements.{All-cons, All-nil}
-use Rattle.std.proofs.lemmas.Slice.Eq.{bytes_eq-Decides}
+use Rattle.mat_witness.proofs.Common.{◌≡◌, ℕ, ◌<◌, ◌≤◌, Bool, true, false, not, ◌&&◌, ◌||◌, eqb, List, [], ◌∷◌, length, map, inl, inr, refl, sym, ap, ◌∙◌, arith, and_left, and_parts, and_right, both_ways, eqb-true, false≢true, not-true, or_cases, All-cons, All-nil, bytes_eq-Decides, is_member}
+use Rattle.mat_witness.proofs.Common.{AllBelow, IsSet, IsSubset, are_distinct, is_member-tail, is_member-head, are_distinct-gives, first_of, has_arc, last_of, IsPath, IsPathBetween, IsSeparator, is_gammoid-from, is_gammoid-gives, is_gammoid, is_path, vertices_of, IsGammoid, for_more, member_vertex}
+use Rattle.mat_witness.proofs.Common.{size_of, vertex_member, is_path-gives, are_closed_off, is_in_either, shows_paths}
 use Rattle.std.specs.List.{All, concat, list_all}
 use Rattle.std.specs.Str.{bytes_eq}
-use Rattle.mat_sets.specs.Sets.{is_member, AllBelow, IsSet, IsSubset}
-use Rattle.mat_sets.specs.SetTests.{are_distinct}
-use Rattle.mat_sets.proofs.ListParts.{is_member-tail}
-use Rattle.mat_sets.proofs.Members.{is_member-head}
-use Rattle.mat_sets.proofs.SetTests.{are_distinct-gives}
-use Rattle.mat_flow.specs.Paths.{first_of, has_arc, last_of, IsPath, IsPathBetween, IsSeparator}
 use Rattle.mat_flow.proofs.PathLaws.{at_most_a_separator}
 use Rattle.mat_flow.proofs.SimplePathLaws.{ArePathsApart-disjoint}
-use Rattle.mat_linked.specs.GammoidLaws.{is_gammoid-from, is_gammoid-gives}
-use Rattle.mat_linked.specs.Gammoids.{is_gammoid, is_path, vertices_of, IsGammoid}
-use Rattle.mat_linked.specs.LinkedSetLaws.{for_more, member_vertex, size_of, vertex_member}
-use Rattle.mat_linked.specs.PathSearchLaws.{is_path-gives}
-use Rattle.mat_witness.specs.BoundParts.{are_closed_off, is_in_either}
-use Rattle.mat_witness.specs.FreeParts.{shows_paths}
 use Rattle.mat_witness.proofs.PassingLists.{member_passes}
 
 -- ---- paths that pass the test

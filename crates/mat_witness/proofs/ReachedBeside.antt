@@ -1,35 +1,15 @@
 -- What the sources reach by arcs from outside a separator. Those of the reached vertices that are in the separator close the others off from
 -- the ends: a walk to an end outside the separator would be a path that misses it. And the separator is no larger than a maximal independent
 -- subset, as there are as many disjoint paths as it has vertices.
-use Rattle.std.proofs.Common.{◌≡◌, ℕ, suc, ◌<◌, ◌≤◌, Bool, true, false, not, ◌&&◌, eqb, List, [], ◌∷◌, length, map, get_or, inl, inr, refl, sym, ap, ◌∙◌, arith}
-use Rattle.std.proofs.lemmas.Bool.{and_from, and_parts, and_right, both_ways, cases_Bool, cases_lt, eq-eqb, eqb-true, false_from_ne_true, not-true, not_from_false, or_left, or_right}
-use Rattle.std.proofs.lemmas.List.{length-map}
+use Rattle.mat_witness.proofs.Common.{◌≡◌, ℕ, suc, ◌<◌, ◌≤◌, Bool, true, false, not, ◌&&◌, eqb, List, [], ◌∷◌, length, map, get_or, inl, inr, refl, sym, ap, ◌∙◌, arith, and_from, and_parts, and_right, both_ways, cases_Bool, cases_lt, eq-eqb, eqb-true, false_from_ne_true, not-true, not_from_false}
+use Rattle.mat_witness.proofs.Common.{or_left, or_right, length-map, IsGraph, row_at, intersection, is_member, minus, union, AllBelow, IsSet, IsSubset, minus_from, minus_parts, length-items, IsRising-filter, below_member, AllBelow-member, IsSet-minus, IsSet-subset, length-distinct_subset}
+use Rattle.mat_witness.proofs.Common.{is_member-filter, is_member-intersection, is_member-union, place_of_member, IsRising-intersection, IsRising-nil, IsRising-union, intersection-left, intersection-right, length-subset, IsMaximal, has_arc, last_of, IsLinking, IsPathBetween, IsSeparator}
+use Rattle.mat_witness.proofs.Common.{ends_are_targets, head_below, last_of-index, gammoid_laws, is_gammoid-from, is_gammoid, vertices_of, IsGammoid, linked_by, member_vertex, vertex_member, is_path-gives, length-vertices_of, are_closed_off, is_in_either, is_open_arc, AreArcRows}
 use Rattle.std.specs.List.{filter, list_all}
-use Rattle.mat_sets.specs.Graphs.{IsGraph}
-use Rattle.mat_sets.specs.Rows.{row_at}
-use Rattle.mat_sets.specs.Sets.{intersection, is_member, minus, union, AllBelow, IsSet, IsSubset}
 use Rattle.mat_sets.specs.Walks.{IsReachedSet, IsWalk}
-use Rattle.mat_sets.proofs.DisjointSets.{minus_from, minus_parts}
-use Rattle.mat_sets.proofs.DistinctLists.{length-items}
-use Rattle.mat_sets.proofs.Filters.{IsRising-filter}
-use Rattle.mat_sets.proofs.Ground.{below_member, AllBelow-member, IsSet-minus, IsSet-subset, length-distinct_subset}
-use Rattle.mat_sets.proofs.Members.{is_member-filter, is_member-intersection, is_member-union, place_of_member, IsRising-intersection, IsRising-nil, IsRising-union}
-use Rattle.mat_sets.proofs.Subsets.{intersection-left, intersection-right, length-subset}
-use Rattle.mat_laws.specs.Matroids.{IsMaximal}
 use Rattle.mat_laws.proofs.Maximal.{IsMaximal-largest}
-use Rattle.mat_flow.specs.Paths.{has_arc, last_of, IsLinking, IsPathBetween, IsSeparator}
-use Rattle.mat_flow.proofs.PathChoiceLaws.{ends_are_targets}
 use Rattle.mat_flow.proofs.PathFamilyLaws.{AreDistinct-ends}
-use Rattle.mat_flow.proofs.Rows.{head_below}
 use Rattle.mat_flow.proofs.DisjointPaths.{first_of_is}
-use Rattle.mat_flow.proofs.RouteSearchLaws.{last_of-index}
-use Rattle.mat_linked.specs.GammoidLaws.{gammoid_laws, is_gammoid-from}
-use Rattle.mat_linked.specs.Gammoids.{is_gammoid, vertices_of, IsGammoid}
-use Rattle.mat_linked.specs.LinkedSetLaws.{linked_by, member_vertex, vertex_member}
-use Rattle.mat_linked.specs.PathSearchLaws.{is_path-gives}
-use Rattle.mat_linked.proofs.VertexSets.{length-vertices_of}
-use Rattle.mat_witness.specs.BoundParts.{are_closed_off, is_in_either}
-use Rattle.mat_witness.specs.GammoidSteps.{is_open_arc, AreArcRows}
 use Rattle.mat_witness.proofs.ListedMembers.{list_all-from}
 use Rattle.mat_witness.proofs.PathParts.{stays_in_either}
 use Rattle.mat_witness.proofs.SourcePaths.{is_path-steps}

@@ -1,23 +1,11 @@
 -- Rows that all meet the columns so far evenly, each with a one of its own: each column takes away at most one. Those that are left for a maximal
 -- independent subset meet each column of the whole set evenly, as it is a sum of columns of the subset.
-use Rattle.std.proofs.Common.{◌≡◌, ℕ, ◌+◌, ◌^◌, ◌<◌, ◌≤◌, true, false, not, cond, eqb, List, length, map, get_or, Option, Some, None, IfSome, IfNone, inl, inr, refl, sym, ap, ◌∙◌, subst, arith}
+use Rattle.mat_witness.proofs.Common.{◌≡◌, ℕ, ◌+◌, ◌^◌, ◌<◌, ◌≤◌, true, false, not, cond, eqb, List, length, map, get_or, Option, Some, None, IfSome, IfNone, inl, inr, refl, sym, ap, ◌∙◌, subst, arith, cases_Bool, cases_lt, both_ways, and_from, and_parts, eq-eqb, eqb-true, eqb-false, is_member}
+use Rattle.mat_witness.proofs.Common.{IsSet, all_below, with_one, is_set, below_member, is_member-get_or, members_by_place, some_below_from, IsSet-from_test, is_set-with_one, IsMaximal, is_linearly_independent, is_gf2, remainder, inner_product_is_one, meet_sum_evenly, are_zeros, has_own_one}
+use Rattle.mat_witness.proofs.Common.{IsTaken}
 use Rattle.std.specs.Int.{bit_at}
 use Rattle.std.specs.List.{list_all}
-use Rattle.std.proofs.lemmas.Bool.{cases_Bool, cases_lt, both_ways, and_from, and_parts, eq-eqb, eqb-true, eqb-false}
-use Rattle.mat_sets.specs.Sets.{is_member, IsSet, all_below, with_one}
-use Rattle.mat_sets.specs.SetTests.{is_set}
-use Rattle.mat_sets.proofs.Ground.{below_member}
-use Rattle.mat_sets.proofs.Members.{is_member-get_or, members_by_place}
-use Rattle.mat_sets.proofs.Search.{some_below_from}
-use Rattle.mat_sets.proofs.SetTests.{IsSet-from_test, is_set-with_one}
-use Rattle.mat_laws.specs.Matroids.{IsMaximal}
-use Rattle.mat_gf2.specs.Columns.{is_linearly_independent, is_gf2}
-use Rattle.mat_gf2.specs.Eliminations.{remainder}
 use Rattle.mat_gf2.specs.SpanLaws.{in_span-from_remainder, test_with_one}
-use Rattle.mat_gf2.specs.InnerProducts.{inner_product_is_one}
-use Rattle.mat_gf2.proofs.InnerProducts.{meet_sum_evenly}
-use Rattle.mat_witness.specs.BoundParts.{are_zeros, has_own_one}
-use Rattle.mat_witness.specs.Rows.{IsTaken}
 use Rattle.mat_witness.proofs.PassingLists.{passes_each, passes_below}
 use Rattle.mat_witness.proofs.ColumnParts.{IsOwnPlace}
 use Rattle.mat_witness.proofs.RowSteps.{EachRow, AreEven, HaveOwnPlaces, length-taken, stay_even, become_even, stay_below, keep_own_places, length-units, units_below, units_have_own_places}

@@ -1,21 +1,12 @@
 -- What taking a row out of a list of rows and adding it to the others keeps: a number that all rows meet evenly they still meet so, each row keeps
 -- its own one, and a number that the new rows and the one taken out meet evenly the old rows met so.
-use Rattle.std.proofs.Common.{◌≡◌, ℕ, ◌+◌, ◌-◌, ◌*◌, ◌%◌, ◌^◌, ◌<◌, ◌≤◌, ◌≢◌, Bool, true, false, not, cond, eqb, ltb, List, length, map, get_or, ◌⊎◌, inl, inr, refl, sym, ap, ◌∙◌, subst, arith}
+use Rattle.mat_witness.proofs.Common.{◌≡◌, ℕ, ◌+◌, ◌-◌, ◌*◌, ◌%◌, ◌^◌, ◌<◌, ◌≤◌, ◌≢◌, Bool, true, false, not, cond, eqb, ltb, List, length, map, get_or, ◌⊎◌, inl, inr, refl, sym, ap, ◌∙◌, subst, arith, cases_Bool, cases_lt, cases_eq, eq-eqb, ne_eqb, lt-ltb, le-ltb, cond-true, cond-false, length-map}
+use Rattle.mat_witness.proofs.Common.{get_or-map, length-remove, get_or-remove_below, get_or-remove_above, xor_lt, bit_at_xor, bit_at-lt, bit_at-pow_same, bit_at-pow_other, all_below, length-map_all_below, get_or-map_all_below, inner_product_is_one, differ, inner_product_is_one-xor, evened, IsTaken}
 use Rattle.std.specs.Int.{bit_at}
 use Rattle.std.specs.Int.Bits.{bit_xor}
 use Rattle.std.specs.List.{remove}
 use Rattle.std.proofs.Math.Nat.{mod-eq_of_lt}
 use Rattle.std.proofs.Math.Pow.{pow-lt}
-use Rattle.std.proofs.lemmas.Bool.{cases_Bool, cases_lt, cases_eq, eq-eqb, ne_eqb, lt-ltb, le-ltb, cond-true, cond-false}
-use Rattle.std.proofs.lemmas.List.{length-map, get_or-map}
-use Rattle.std.proofs.lemmas.List.Edits.{length-remove, get_or-remove_below, get_or-remove_above}
-use Rattle.std.proofs.lemmas.Nat.{xor_lt}
-use Rattle.std.proofs.lemmas.Nat.Bits.{bit_at_xor, bit_at-lt, bit_at-pow_same, bit_at-pow_other}
-use Rattle.mat_sets.specs.Sets.{all_below}
-use Rattle.mat_sets.proofs.Ground.{length-map_all_below, get_or-map_all_below}
-use Rattle.mat_gf2.specs.InnerProducts.{inner_product_is_one}
-use Rattle.mat_gf2.proofs.InnerProducts.{differ, inner_product_is_one-xor}
-use Rattle.mat_witness.specs.Rows.{evened, IsTaken}
 use Rattle.mat_witness.proofs.ColumnParts.{IsOwnPlace}
 
 -- ---- one row

@@ -1,35 +1,12 @@
 -- What a witness shows of a rung. Its first part gives the weight of the set and the split; its second and third parts that the set is heaviest
 -- of its size under both halves; and its fourth bounds each common independent set, which lies in part outside the cut and in part inside it.
-use Rattle.std.proofs.Common.{◌≡◌, ℕ, ◌+◌, ◌≤◌, Bool, true, not, ◌&&◌, if◌then◌else◌, eqb, leb, ltb, List, [], ◌∷◌, ◌++◌, length, drop, Option}
-use Rattle.std.proofs.Common.{Some, None, slice_get, refl, sym, subst, arith}
-use Rattle.std.proofs.lemmas.Bool.{and_parts, eqb-true, leb-true, ltb-true}
-use Rattle.std.proofs.lemmas.Option.{slice_get-get_or}
+use Rattle.mat_witness.proofs.Common.{◌≡◌, ℕ, ◌+◌, ◌≤◌, Bool, true, not, ◌&&◌, if◌then◌else◌, eqb, leb, ltb, List, [], ◌∷◌, ◌++◌, length, drop, Option, Some, None, slice_get, refl, sym, subst, arith, and_parts, eqb-true, leb-true, ltb-true, slice_get-get_or, all_below, IsSet, intersection, minus}
+use Rattle.mat_witness.proofs.Common.{◌⊕◌, is_same, weight, weight_at, Weight, length-minus-intersection, IsSet-all_below, IsSet-minus, IsSubset-all_below, IsRising-intersection, IsRising-minus, intersection-left, intersection-right, minus-both, minus-IsSubset, same_gives, IsMatroid, tree_laws}
+use Rattle.mat_witness.proofs.Common.{Tree, element_count, is_independent, IsSound, Certificate, IsRanged, IsRangedLadder, IsRangedPricedRung, last_rung, intersect, PricedRung, IsValid, IsValidTree, Instance, pair, IsSoundInstance-valid, bound_of, shows_bound, shows_free, has_rung}
+use Rattle.mat_witness.proofs.Common.{is_witnessed_pair, BoundPart, IsFreeFor, WitnessParts, AreBoundsFor, IsWitness, IsWitnessFor, IsProved, IsProvedRung, IsShown, are_met, bounds_common_sets, demands_of, demands_under, shows_common_set, is_priced, rung_at}
 use Rattle.std.specs.List.{AllByRecursion, list_all}
-use Rattle.mat_sets.specs.Sets.{all_below, IsSet, intersection, minus}
-use Rattle.mat_sets.specs.Weights.{◌⊕◌, is_same, weight, weight_at}
-use Rattle.mat_sets.specs.declared.weight.Weight.{Weight}
-use Rattle.mat_sets.proofs.Cardinalities.{length-minus-intersection}
-use Rattle.mat_sets.proofs.Ground.{IsSet-all_below, IsSet-minus, IsSubset-all_below}
-use Rattle.mat_sets.proofs.Members.{IsRising-intersection, IsRising-minus}
-use Rattle.mat_sets.proofs.Subsets.{intersection-left, intersection-right, minus-both, minus-IsSubset}
-use Rattle.mat_sets.proofs.WeightOrder.{same_gives}
 use Rattle.mat_laws.specs.Ladders.{IsRung}
-use Rattle.mat_laws.specs.Matroids.{IsMatroid}
 use Rattle.mat_laws.proofs.BestLadders.{rung_is_heaviest}
-use Rattle.mat_any.specs.TreeLaws.{tree_laws}
-use Rattle.mat_any.specs.Trees.{Tree, element_count, is_independent, IsSound}
-use Rattle.mat_cert.specs.Certificates.{Certificate, IsRanged, IsRangedLadder, IsRangedPricedRung, last_rung}
-use Rattle.mat_cert.specs.Certificates.{intersect}
-use Rattle.mat_cert.specs.declared.answer.PricedRung.{PricedRung}
-use Rattle.mat_problem.specs.Validity.{IsValid, IsValidTree}
-use Rattle.mat_problem.specs.Instances.{Instance, pair}
-use Rattle.mat_problem.proofs.SoundProblems.{IsSoundInstance-valid}
-use Rattle.mat_witness.specs.BoundParts.{bound_of, shows_bound}
-use Rattle.mat_witness.specs.FreeParts.{shows_free}
-use Rattle.mat_witness.specs.Kinds.{has_rung, is_witnessed_pair}
-use Rattle.mat_witness.specs.Parts.{BoundPart, IsFreeFor, WitnessParts}
-use Rattle.mat_witness.specs.Shown.{AreBoundsFor, IsWitness, IsWitnessFor, IsProved, IsProvedRung, IsShown}
-use Rattle.mat_witness.specs.Shown.{are_met, bounds_common_sets, demands_of, demands_under, shows_common_set, is_priced, rung_at}
 use Rattle.mat_witness.proofs.PassingLists.{all_below_pass}
 use Rattle.mat_witness.proofs.KindParts.{bound_holds, free_is_shown}
 use Rattle.mat_witness.proofs.MetDemands.{bounds_meet, demands_are_fair, half_is_heaviest, IsFair, IsMet}

@@ -1,19 +1,8 @@
 -- What a list of paths is read for: a list is a path where each of its vertices but the first is in the row of the one before it; where paths
 -- end, and all their vertices; and an item that stands among those before it stands twice.
-use Rattle.std.proofs.Common.{◌≡◌, ℕ, zero, suc, ◌+◌, ◌-◌, ◌<◌, ◌≤◌, true, false, not, eqb, List, [], ◌∷◌, ◌++◌, length, map, get_or, take, inl, inr, refl, sym, ap, ◌∙◌, arith}
-use Rattle.std.proofs.lemmas.Bool.{and_from, and_left, and_right, eqb-true, false≢true, or_cases}
-use Rattle.std.proofs.lemmas.List.{append-nil, map-append, take_more}
-use Rattle.std.proofs.lemmas.List.Folds.{concat-append}
+use Rattle.mat_witness.proofs.Common.{◌≡◌, ℕ, zero, suc, ◌+◌, ◌-◌, ◌<◌, ◌≤◌, true, false, not, eqb, List, [], ◌∷◌, ◌++◌, length, map, get_or, take, inl, inr, refl, sym, ap, ◌∙◌, arith, and_from, and_left, and_right, eqb-true, false≢true, or_cases, append-nil, map-append, take_more, concat-append}
+use Rattle.mat_witness.proofs.Common.{row_at, is_member, AllBelow, are_distinct, is_member-get_or, AllBelow-at, has_arc, last_of, last_of-index, is_path, AreArcRows}
 use Rattle.std.specs.List.{concat}
-use Rattle.mat_sets.specs.Rows.{row_at}
-use Rattle.mat_sets.specs.Sets.{is_member, AllBelow}
-use Rattle.mat_sets.specs.SetTests.{are_distinct}
-use Rattle.mat_sets.proofs.Members.{is_member-get_or}
-use Rattle.mat_sets.proofs.Sums.{AllBelow-at}
-use Rattle.mat_flow.specs.Paths.{has_arc, last_of}
-use Rattle.mat_flow.proofs.RouteSearchLaws.{last_of-index}
-use Rattle.mat_linked.specs.Gammoids.{is_path}
-use Rattle.mat_witness.specs.GammoidSteps.{AreArcRows}
 
 -- ---- paths by their steps
 

@@ -1,23 +1,9 @@
 -- The bounds of a witness stand in three parts: those for what is demanded under the first half, those under the second, and two for the cut.
 -- Each part has bounds of its matroid's kind, and all demands are met where those of both halves are, each by its part.
-use Rattle.std.proofs.Common.{◌≡◌, ℕ, zero, suc, ◌<◌, ◌≤◌, Bool, true, false, ◌&&◌, ltb, List, [], ◌∷◌, ◌++◌, length, map, drop, get_or}
-use Rattle.std.proofs.Common.{not, if◌then◌else◌, Option, Some, None, refl, sym, ap, ◌∙◌, subst, append_assoc, arith}
-use Rattle.std.proofs.lemmas.List.{drop-map, map-append}
-use Rattle.std.proofs.lemmas.Option.{cond_some, none-some}
-use Rattle.std.proofs.lemmas.List.Elements.{All-from_recursion}
+use Rattle.mat_witness.proofs.Common.{◌≡◌, ℕ, zero, suc, ◌<◌, ◌≤◌, Bool, true, false, ◌&&◌, ltb, List, [], ◌∷◌, ◌++◌, length, map, drop, get_or, not, if◌then◌else◌, Option, Some, None, refl, sym, ap, ◌∙◌, subst, append_assoc, arith, drop-map, map-append, cond_some, none-some, All-from_recursion}
+use Rattle.mat_witness.proofs.Common.{IsSet, Weight, falling_weights, Tree, IsSound, PricedRung, IsValidTree, demand_for, BoundPart, IsBoundFor, AreBoundsFor, Demand, are_met, bounded_trees, bounds_common_sets, demand_at, demands_under, meets, bound_part, Most}
 use Rattle.std.specs.List.{All, AllByRecursion}
-use Rattle.mat_sets.specs.Sets.{IsSet}
-use Rattle.mat_sets.specs.declared.weight.Weight.{Weight}
-use Rattle.mat_sets.specs.FallingWeights.{falling_weights}
-use Rattle.mat_any.specs.Trees.{Tree, IsSound}
-use Rattle.mat_cert.specs.declared.answer.PricedRung.{PricedRung}
-use Rattle.mat_problem.specs.Validity.{IsValidTree}
-use Rattle.mat_witness.specs.Demands.{demand_for}
-use Rattle.mat_witness.specs.Parts.{BoundPart, IsBoundFor}
-use Rattle.mat_witness.specs.Shown.{AreBoundsFor, Demand, are_met, bounded_trees, bounds_common_sets, demand_at, demands_under, meets}
-use Rattle.mat_witness.specs.Views.{bound_part}
 use Rattle.mat_witness.specs.declared.demands.Demand.{Demand as Asked}
-use Rattle.mat_witness.specs.declared.witness.Most.{Most}
 use Rattle.mat_witness.proofs.MetDemands.{IsFair, demands_are_fair, filtered_from}
 
 -- the matroids of what is demanded

@@ -1,18 +1,7 @@
 -- Tables of what the edges of a forest add up to at each vertex. As no edge of a forest is a loop, each adds its amount once at most.
-use Rattle.std.proofs.Common.{◌≡◌, ◌≢◌, ℕ, zero, suc, ◌+◌, ◌*◌, ◌-◌, ◌^◌, ◌<◌, ◌≤◌, true, cond, eqb, get_or, drop, replicate, List, [], ◌∷◌, ◌++◌, length, take, inl, inr, refl, sym, ap, ◌∙◌, subst, arith}
-use Rattle.std.proofs.lemmas.Bool.{and_parts, cases_Bool, eqb-true, or_right}
-use Rattle.std.proofs.lemmas.List.{drop_all, get_or-replicate, length-drop, length-replicate}
-use Rattle.mat_sets.specs.Graphs.{IsGraph, ends_of}
-use Rattle.mat_sets.specs.Sets.{is_member, IsSet}
-use Rattle.mat_sets.specs.SetTests.{is_set}
-use Rattle.mat_sets.proofs.Ground.{IsSet-length, below_member}
-use Rattle.mat_sets.proofs.Members.{is_member-get_or, is_member-head, only_member}
-use Rattle.mat_sets.proofs.Steps.{written_back}
+use Rattle.mat_witness.proofs.Common.{◌≡◌, ◌≢◌, ℕ, zero, suc, ◌+◌, ◌*◌, ◌-◌, ◌^◌, ◌<◌, ◌≤◌, true, cond, eqb, get_or, drop, replicate, List, [], ◌∷◌, ◌++◌, length, take, inl, inr, refl, sym, ap, ◌∙◌, subst, arith, and_parts, cases_Bool, eqb-true, or_right, drop_all, get_or-replicate, length-drop}
+use Rattle.mat_witness.proofs.Common.{length-replicate, IsGraph, ends_of, is_member, IsSet, is_set, IsSet-length, below_member, is_member-get_or, is_member-head, only_member, written_back, IsSet-from_test, IsForest, is_forest, is_graphic, IsForest-from_test, IsSumTable, at_ends, end_sum}
 use Rattle.mat_graphic.proofs.Uniting.{edge_before}
-use Rattle.mat_sets.proofs.SetTests.{IsSet-from_test}
-use Rattle.mat_graphic.specs.Forests.{IsForest, is_forest, is_graphic}
-use Rattle.mat_graphic.specs.ForestLaws.{IsForest-from_test}
-use Rattle.mat_witness.specs.EndSums.{IsSumTable, at_ends, end_sum}
 
 -- a set of edges of a graph that is a forest
 pub record IsForestOf (vertices : ℕ) (edges : List (ℕ × ℕ)) (X : List ℕ) : Type 0 where

@@ -1,25 +1,12 @@
 -- Probes by elimination. The row that a column takes out meets the earlier columns evenly, so it becomes the column's probe, and adding it to the
 -- earlier probes makes them meet the new column evenly. No number but zero is met evenly by all rows and probes; so some row meets the next column
 -- oddly, as else that column would be the sum of the earlier ones whose probes meet it oddly.
-use Rattle.std.proofs.Common.{◌≡◌, ℕ, zero, suc, ◌+◌, ◌^◌, ◌<◌, Bool, true, false, not, cond, eqb, List, [], ◌∷◌, ◌++◌, length, map, get_or, inl, inr, refl, sym, ap, ◌∙◌, subst, arith}
+use Rattle.mat_witness.proofs.Common.{◌≡◌, ℕ, zero, suc, ◌+◌, ◌^◌, ◌<◌, Bool, true, false, not, cond, eqb, List, [], ◌∷◌, ◌++◌, length, map, get_or, inl, inr, refl, sym, ap, ◌∙◌, subst, arith, cases_Bool, cases_lt, both_ways, and_from, and_parts, eq-eqb, ne_eqb, cond-true, cond-false, length-map}
+use Rattle.mat_witness.proofs.Common.{get_or-map, get_or_append_left, get_or_push, length_push, pow_pos, xor_lt, is_member, IsRising, all_below, without_one, is_set, below_member, IsSet-from_test, set_members, is_member-get_or, IsRising-nil, RisesFrom-index, without_one-IsSubset, IsBinaryMatrix}
+use Rattle.mat_witness.proofs.Common.{IsLinearlyIndependent, is_linearly_independent, column_of, is_gf2, xor_cancel, inner_product_is_one, differ, inner_product_is_one-xor_right, inner_product_is_one-zero_right, zero_from_powers, shows_probes, evened, IsTaken}
 use Rattle.std.specs.Int.Bits.{bit_xor, xor_zero_r}
 use Rattle.std.specs.List.{list_all}
-use Rattle.std.proofs.lemmas.Bool.{cases_Bool, cases_lt, both_ways, and_from, and_parts, eq-eqb, ne_eqb, cond-true, cond-false}
-use Rattle.std.proofs.lemmas.List.{length-map, get_or-map, get_or_append_left, get_or_push, length_push}
-use Rattle.std.proofs.lemmas.Nat.{pow_pos, xor_lt}
-use Rattle.mat_sets.specs.Sets.{is_member, IsRising, all_below, without_one}
-use Rattle.mat_sets.specs.SetTests.{is_set}
-use Rattle.mat_sets.proofs.Ground.{below_member}
-use Rattle.mat_sets.proofs.SetTests.{IsSet-from_test}
-use Rattle.mat_sets.proofs.Members.{set_members, is_member-get_or, IsRising-nil, RisesFrom-index}
-use Rattle.mat_sets.proofs.Subsets.{without_one-IsSubset}
-use Rattle.mat_gf2.specs.Columns.{IsBinaryMatrix, IsLinearlyIndependent, is_linearly_independent, column_of, is_gf2}
 use Rattle.mat_gf2.specs.SpanLaws.{InSpan, in_span-column, dependent-with_sum, IsLinearlyIndependent-from_test}
-use Rattle.mat_gf2.specs.LeadingBitLaws.{xor_cancel}
-use Rattle.mat_gf2.specs.InnerProducts.{inner_product_is_one}
-use Rattle.mat_gf2.proofs.InnerProducts.{differ, inner_product_is_one-xor_right, inner_product_is_one-zero_right, zero_from_powers}
-use Rattle.mat_witness.specs.FreeParts.{shows_probes}
-use Rattle.mat_witness.specs.Rows.{evened, IsTaken}
 use Rattle.mat_witness.proofs.PassingLists.{passes_below}
 use Rattle.mat_witness.proofs.RowSteps.{EachRow, AreEven, evened-below, evened-keeps, evened-even, taken-even, taken-below, were_even, length-units, unit_row}
 use Rattle.mat_witness.proofs.ReducedRows.{AreReduced, AreReduced-start, AreReduced-taken}

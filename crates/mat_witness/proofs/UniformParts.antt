@@ -1,16 +1,7 @@
 -- Bounds in a uniform matroid: its one listed set has all elements, so that any set is covered where it is chosen.
-use Rattle.std.proofs.Common.{◌≡◌, ℕ, ◌+◌, ◌<◌, ◌≤◌, true, false, cond, eqb, leb, Some, None, List, [], ◌∷◌, length, refl, sym, ap, ◌∙◌, arith}
-use Rattle.std.proofs.lemmas.Bool.{and_parts, both_ways, eqb-true, false_from_ne_true, lt-ltb, or_left, or_right, true_from_ne_false}
-use Rattle.mat_sets.specs.Sets.{is_member, all_below, IsSet, IsSubset, with_one}
-use Rattle.mat_sets.specs.SetTests.{is_set}
-use Rattle.mat_sets.proofs.Ground.{IsSet-nil, below_member, is_member-all_below}
-use Rattle.mat_sets.proofs.SetTests.{IsSet-from_test}
-use Rattle.mat_sets.proofs.Truths.{or_none}
-use Rattle.mat_laws.specs.Matroids.{IsMaximal}
-use Rattle.mat_count.specs.Counts.{is_uniform}
+use Rattle.mat_witness.proofs.Common.{◌≡◌, ℕ, ◌+◌, ◌<◌, ◌≤◌, true, false, cond, eqb, leb, Some, None, List, [], ◌∷◌, length, refl, sym, ap, ◌∙◌, arith, and_parts, both_ways, eqb-true, false_from_ne_true, lt-ltb, or_left, or_right, true_from_ne_false, is_member, all_below, IsSet, IsSubset, with_one}
+use Rattle.mat_witness.proofs.Common.{is_set, IsSet-nil, below_member, is_member-all_below, IsSet-from_test, or_none, IsMaximal, is_uniform, are_covered, caps_sum, is_in_chosen, AreSpent}
 use Rattle.mat_count.proofs.UniformRows.{uniform-with_one}
-use Rattle.mat_witness.specs.BoundParts.{are_covered, caps_sum, is_in_chosen}
-use Rattle.mat_witness.specs.Parts.{AreSpent}
 use Rattle.mat_witness.proofs.CountedParts.{covered_at, covered_from}
 
 -- the one set that can be chosen

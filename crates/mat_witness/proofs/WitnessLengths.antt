@@ -1,39 +1,13 @@
 -- How long the text of a witness is. A bound has two lines of at most 500 numbers, or at most 129 lines of at most 128 digits; there are at most
 -- 1,002 bounds. A part that shows independence has at most 500 pairs, 500 lines of digits, or 500 paths with at most 500 vertices in all.
-use Rattle.std.proofs.Common.{◌≡◌, ℕ, suc, ◌+◌, ◌*◌, ◌≤◌, pos, Bool, true, false, not, cond, List, [], ◌∷◌, ◌++◌, length, map}
-use Rattle.std.proofs.Common.{Some, None, refl, sym, ap, ◌∙◌, arith}
-use Rattle.std.specs.Prelude.{Option, codes, filter, nat_lt}
+use Rattle.mat_witness.proofs.Common.{◌≡◌, ℕ, suc, ◌+◌, ◌*◌, ◌≤◌, pos, Bool, true, false, not, cond, List, [], ◌∷◌, ◌++◌, length, map, Some, None, refl, sym, ap, ◌∙◌, arith, Option, codes, filter, nat_lt, and_parts, length-append, length-map, slice_get-get_or, All-cons, All-head, All-nil, All-tail}
+use Rattle.mat_witness.proofs.Common.{most_elements, most_vertices, AllBelow, IsSet, are_distinct, Weight, is_below, is_same, AllBelow-append, IsSet-length, length-distinct_below, are_distinct-gives, falling_weights, with_weight, binary, Line, text_of, numeral, numerals, end_line, members_line}
+use Rattle.mat_witness.proofs.Common.{text_of-append, Tree, uniform, partition, laminar, graphic, gammoid, gf2, IsValid, IsValidTree, Instance, pair, Certificate, IsRanged, intersect, PricedRung, shows_free, has_rung, binary_line, bound_lines, bounds_lines, free_lines, witness_limit, witness_lines}
+use Rattle.mat_witness.proofs.Common.{witness_text, AreSpent, BoundPart, FreePart, WitnessParts, IsBoundFor, IsFreeFor, count, forest, paths, probes, spent, labels, gate, zeros, AreBoundsFor, Demand, IsShown, IsWitnessFor, bounded_trees, demand_at, shows_common_set, is_priced, rung_at}
 use Rattle.std.specs.List.{All, concat, flat_map}
-use Rattle.std.proofs.lemmas.Bool.{and_parts}
-use Rattle.std.proofs.lemmas.List.{length-append, length-map}
-use Rattle.std.proofs.lemmas.Option.{slice_get-get_or}
-use Rattle.std.proofs.lemmas.List.Elements.{All-cons, All-head, All-nil, All-tail}
-use Rattle.mat_sets.specs.Limits.{most_elements, most_vertices}
-use Rattle.mat_sets.specs.Sets.{AllBelow, IsSet}
-use Rattle.mat_sets.specs.SetTests.{are_distinct}
-use Rattle.mat_sets.specs.declared.weight.Weight.{Weight}
-use Rattle.mat_sets.specs.Weights.{is_below, is_same}
-use Rattle.mat_sets.proofs.Ground.{AllBelow-append, IsSet-length, length-distinct_below}
-use Rattle.mat_sets.proofs.SetTests.{are_distinct-gives}
-use Rattle.mat_sets.specs.FallingWeights.{falling_weights, with_weight}
-use Rattle.mat_words.specs.Binary.{binary}
-use Rattle.mat_words.specs.Lines.{Line, text_of}
-use Rattle.mat_words.specs.Numbers.{numeral, numerals}
-use Rattle.mat_words.specs.Writing.{end_line, members_line}
 use Rattle.mat_words.proofs.BinaryLaws.{length-binary}
-use Rattle.mat_words.proofs.LineLemmas.{text_of-append}
-use Rattle.mat_any.specs.Trees.{Tree, uniform, partition, laminar, graphic, gammoid, gf2}
-use Rattle.mat_problem.specs.Validity.{IsValid, IsValidTree}
 use Rattle.mat_problem.specs.Instances as instances
-use Rattle.mat_problem.specs.Instances.{Instance, pair}
 use Rattle.mat_cert.specs.Certificates as certificates
-use Rattle.mat_cert.specs.Certificates.{Certificate, IsRanged, intersect}
-use Rattle.mat_cert.specs.declared.answer.PricedRung.{PricedRung}
-use Rattle.mat_witness.specs.FreeParts.{shows_free}
-use Rattle.mat_witness.specs.Kinds.{has_rung}
-use Rattle.mat_witness.specs.Lines.{binary_line, bound_lines, bounds_lines, free_lines, witness_limit, witness_lines, witness_text}
-use Rattle.mat_witness.specs.Parts.{AreSpent, BoundPart, FreePart, WitnessParts, IsBoundFor, IsFreeFor, count, forest, paths, probes, spent, labels, gate, zeros}
-use Rattle.mat_witness.specs.Shown.{AreBoundsFor, Demand, IsShown, IsWitnessFor, bounded_trees, demand_at, shows_common_set, is_priced, rung_at}
 use Rattle.mat_cert.proofs.PrintedLengths.{IsAtMost, line_length, members_short, natural_length, text_length}
 use Rattle.mat_witness.proofs.BoundRows.{All-bounded_trees, bounded_trees-row, demand_count, length-row_trees}
 use Rattle.mat_witness.proofs.PartLines.{IsPathIn}

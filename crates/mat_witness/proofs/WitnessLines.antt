@@ -1,31 +1,9 @@
 -- The lines of a whole witness: a text that is read is that of the witness that was read, which is in range, and the text of a witness in range
 -- is read as that witness.
-use Rattle.std.proofs.Common.{◌≡◌, ℕ, pos, true, List, [], ◌∷◌, ◌++◌, Result, Ok, refl, sym, ap, subst, ◌∙◌, append_assoc}
-use Rattle.std.specs.Prelude.{codes}
+use Rattle.mat_witness.proofs.Common.{◌≡◌, ℕ, pos, true, List, [], ◌∷◌, ◌++◌, Result, Ok, refl, sym, ap, subst, ◌∙◌, append_assoc, codes, and_from, All-head, All-tail, LinesLeft, Line, lines_of, text_of, numeral, ◌>>=◌, is_word, end_line, same_text, AreLeft, known_line, numeral_word, found-same}
+use Rattle.mat_witness.proofs.Common.{bind_found, Tree, Fault, counted_at, fixed_at, number_at, IsRead, IsReadAgain, end_found, end_again, closed_found, closed_again, exact_found, exact_again, fixed_found, fixed_again, whole_line, is_witnessed, bound_lines, bounds_lines, free_lines, witness_lines}
+use Rattle.mat_witness.proofs.Common.{BoundPart, FreePart, WitnessParts, IsFreeFor, bound_at, bounds_at, parts_at, rung_line_at, version_at, witness_at, AreBoundsFor, counted_found, counted_again}
 use Rattle.std.specs.List.{All}
-use Rattle.std.proofs.lemmas.Bool.{and_from}
-use Rattle.std.proofs.lemmas.List.Elements.{All-head, All-tail}
-use Rattle.mat_words.specs.Cursors.{LinesLeft}
-use Rattle.mat_words.specs.Lines.{Line, lines_of, text_of}
-use Rattle.mat_words.specs.Numbers.{numeral}
-use Rattle.mat_words.specs.Steps.{◌>>=◌}
-use Rattle.mat_words.specs.Words.{is_word}
-use Rattle.mat_words.specs.Writing.{end_line}
-use Rattle.mat_words.proofs.LineLemmas.{same_text}
-use Rattle.mat_words.proofs.LineReading.{AreLeft, known_line}
-use Rattle.mat_words.proofs.NumberLemmas.{numeral_word}
-use Rattle.mat_words.proofs.ReadingSteps.{found-same, bind_found}
-use Rattle.mat_any.specs.Trees.{Tree}
-use Rattle.mat_cert.specs.Faults.{Fault}
-use Rattle.mat_cert.specs.LineReading.{counted_at, fixed_at, number_at}
-use Rattle.mat_cert.proofs.LineLaws.{IsRead, IsReadAgain, end_found, end_again, closed_found, closed_again}
-use Rattle.mat_cert.proofs.WordLaws.{exact_found, exact_again, fixed_found, fixed_again, whole_line}
-use Rattle.mat_witness.specs.Kinds.{is_witnessed}
-use Rattle.mat_witness.specs.Lines.{bound_lines, bounds_lines, free_lines, witness_lines}
-use Rattle.mat_witness.specs.Parts.{BoundPart, FreePart, WitnessParts, IsFreeFor}
-use Rattle.mat_witness.specs.Reading.{bound_at, bounds_at, parts_at, rung_line_at, version_at, witness_at}
-use Rattle.mat_witness.specs.Shown.{AreBoundsFor}
-use Rattle.mat_cert.proofs.LineLaws.{counted_found, counted_again}
 use Rattle.mat_witness.proofs.FreeLines.{HasDigits, free_found, free_again}
 use Rattle.mat_witness.proofs.BoundLines.{bound_found, bound_again}
 

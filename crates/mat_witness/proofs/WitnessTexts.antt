@@ -1,28 +1,10 @@
 -- The texts of witnesses for a problem and an answer: what is read is one, and what is one is read.
-use Rattle.std.proofs.Common.{◌≡◌, ℕ, ◌<◌, true, List, length, Result, Ok, Err, IfOk, refl, sym, ◌∙◌, arith}
-use Rattle.std.specs.Prelude.{Some, slice_get}
-use Rattle.std.proofs.Common.{get_or, subst}
-use Rattle.std.proofs.lemmas.List.{get_or_default}
-use Rattle.std.proofs.lemmas.Option.{slice_get_read}
-use Rattle.std.proofs.lemmas.Bool.{and_parts, ltb-true}
-use Rattle.mat_words.specs.Lines.{text_of}
-use Rattle.mat_sets.specs.declared.weight.Weight.{Weight}
-use Rattle.mat_any.specs.Trees.{Tree, gf2}
-use Rattle.mat_problem.specs.Validity.{IsValid, IsValidTree}
+use Rattle.mat_witness.proofs.Common.{◌≡◌, ℕ, ◌<◌, true, List, length, Result, Ok, Err, IfOk, refl, sym, ◌∙◌, arith, Some, slice_get, get_or, subst, get_or_default, slice_get_read, and_parts, ltb-true, text_of, Weight, Tree, gf2, IsValid, IsValidTree, Instance, pair, PricedRung, Certificate}
+use Rattle.mat_witness.proofs.Common.{IsRanged, intersect, Gives, CertRefusal, Fault, has_rung, is_witnessed, is_witnessed_pair, witness_lines, witness_text, WitnessParts, read_of, witness_at, AreBoundsFor, IsWitnessFor, bounded_trees, rung_at}
 use Rattle.mat_problem.specs.Instances as instances
-use Rattle.mat_problem.specs.Instances.{Instance, pair}
-use Rattle.mat_cert.specs.declared.answer.PricedRung.{PricedRung}
 use Rattle.mat_words.specs.declared.refusal.Refusal.TheVariants as refusals
 use Rattle.mat_cert.specs.Certificates as certificates
-use Rattle.mat_cert.specs.Certificates.{Certificate, IsRanged, intersect}
-use Rattle.mat_words.specs.Reading.{Gives}
-use Rattle.mat_cert.specs.Faults.{CertRefusal, Fault}
-use Rattle.mat_witness.specs.Kinds.{has_rung, is_witnessed, is_witnessed_pair}
-use Rattle.mat_witness.specs.Lines.{witness_lines, witness_text}
-use Rattle.mat_witness.specs.Parts.{WitnessParts}
-use Rattle.mat_witness.specs.Reading.{read_of, witness_at}
 use Rattle.mat_witness.specs.RungRanges.{AreRungRanges}
-use Rattle.mat_witness.specs.Shown.{AreBoundsFor, IsWitnessFor, bounded_trees, rung_at}
 use Rattle.mat_witness.proofs.BoundRows.{All-bounded_trees}
 use Rattle.mat_witness.proofs.FreeLines.{HasDigits}
 use Rattle.mat_witness.proofs.WitnessLines.{whole_text, witness_found, witness_again}

@@ -1,21 +1,8 @@
 -- Items that stand in a row on a line, each as one or more words: what is read is spelled so, and what is spelled so is read.
-use Rattle.std.proofs.Common.{◌≡◌, ℕ, zero, suc, ◌<◌, ◌+◌, ◌*◌, ◌-◌, arith, pos, List, [], ◌∷◌, ◌++◌, length, Result, Ok, refl, sym, ap, subst, ◌∙◌, append_assoc}
+use Rattle.mat_witness.proofs.Common.{◌≡◌, ℕ, zero, suc, ◌<◌, ◌+◌, ◌*◌, ◌-◌, arith, pos, List, [], ◌∷◌, ◌++◌, length, Result, Ok, refl, sym, ap, subst, ◌∙◌, append_assoc, All-nil, All-cons, All-head, All-tail, AllBelow, Line, numeral, numerals, WordsLeft, ◌>>=◌, repeat_at, found-same, bind_found}
+use Rattle.mat_witness.proofs.Common.{told_again, with_front, repeat_more, repeat_refused, repeat_done, below_again, Fails, CertRefusal, Fault, kind_of, below_at, below_read, pair_at}
 use Rattle.std.specs.List.{All, flat_map}
-use Rattle.std.proofs.lemmas.List.Elements.{All-nil, All-cons, All-head, All-tail}
-use Rattle.mat_sets.specs.Sets.{AllBelow}
-use Rattle.mat_words.specs.Lines.{Line}
-use Rattle.mat_words.specs.Numbers.{numeral, numerals}
-use Rattle.mat_words.specs.Cursors.{WordsLeft}
 use Rattle.mat_words.specs.Reading as any_text
-use Rattle.mat_words.specs.Steps.{◌>>=◌, repeat_at}
-use Rattle.mat_words.proofs.ReadingSteps.{found-same, bind_found, told_again}
-use Rattle.mat_words.proofs.Repeats.{with_front, repeat_more, repeat_refused, repeat_done}
-use Rattle.mat_words.proofs.WordReading.{below_again}
-use Rattle.mat_words.specs.Reading.{Fails}
-use Rattle.mat_cert.specs.Faults.{CertRefusal, Fault, kind_of}
-use Rattle.mat_cert.specs.LineReading.{below_at}
-use Rattle.mat_cert.proofs.WordLaws.{below_read}
-use Rattle.mat_witness.specs.Reading.{pair_at}
 
 -- one item was read
 pub record IsWordsRead (InRange : Type 0) (words : Line) (w q : WordsLeft) : Type 0 where

@@ -1,20 +1,11 @@
 -- Words of binary digits: the last d digits of a number below 2 ^ d spell it, and a word of d digits has those of the number that it
 -- spells. Both are told of digits that stand behind others, whose number is doubled at each digit.
-use Rattle.std.proofs.Common.{◌≡◌, ℕ, zero, suc, ◌+◌, ◌-◌, ◌*◌, ◌%◌, ◌^◌, ◌<◌, ◌≤◌, Bool}
-use Rattle.std.proofs.Common.{true, false, ◌&&◌, ◌||◌, eqb, refl, sym, ap, ap₂, ◌∙◌, arith}
-use Rattle.std.proofs.Common.{List, [], ◌∷◌, ◌++◌, length, take, drop, get_or, Ok}
+use Rattle.mat_words.proofs.Common.{◌≡◌, ℕ, zero, suc, ◌+◌, ◌-◌, ◌*◌, ◌%◌, ◌^◌, ◌<◌, ◌≤◌, Bool, true, false, ◌&&◌, ◌||◌, eqb, refl, sym, ap, ap₂, ◌∙◌, arith, List, [], ◌∷◌, ◌++◌, length, take, drop, get_or, Ok, eqb-true, eq-eqb, and_from, and_parts, append_assoc, append-nil, length-append, take_at}
+use Rattle.mat_words.proofs.Common.{take-append-le, at_drop_more, at_drop_all, bit_at-lt, bit_at_lowest, bit_at_cat_high, is_letter, is_word, Spelling, binary, is_binary, binary_value, binary_in, WordsLeft, binary_at}
 use Rattle.std.specs.Int.{bit_at}
 use Rattle.std.specs.List.{list_all}
 use Rattle.std.proofs.Math.Nat.{add-mul, mul_assoc, mul_comm, mod-eq_of_lt, pow-succ', pow-le-pow_right}
-use Rattle.std.proofs.lemmas.Bool.{eqb-true, eq-eqb, and_from, and_parts}
-use Rattle.std.proofs.lemmas.List.{append_assoc, append-nil, length-append, take_at, take-append-le, at_drop_more, at_drop_all}
 use Rattle.std.proofs.lemmas.Nat.{mod-pow-add, mod_below}
-use Rattle.std.proofs.lemmas.Nat.Bits.{bit_at-lt, bit_at_lowest, bit_at_cat_high}
-use Rattle.mat_words.specs.Words.{is_letter, is_word}
-use Rattle.mat_words.specs.declared.numbers.NumberFault.TheVariants.{Spelling}
-use Rattle.mat_words.specs.Binary.{binary, is_binary, binary_value, binary_in}
-use Rattle.mat_words.specs.Cursors.{WordsLeft}
-use Rattle.mat_words.specs.Reading.{binary_at}
 use Rattle.mat_words.proofs.ReadingSteps.{found-same, test_found}
 use Rattle.mat_words.proofs.WordReading.{item_found, item_again}
 

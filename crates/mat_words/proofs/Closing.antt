@@ -1,11 +1,7 @@
 -- The end of a text.
-use Rattle.std.proofs.Common.{◌≡◌, ℕ, ◌<◌, Bool, true, false, cond, List, [], ◌∷◌, length, refl, ◌∙◌, arith}
-use Rattle.std.specs.Prelude.{◌==◌}
+use Rattle.mat_words.proofs.Common.{◌≡◌, ℕ, ◌<◌, Bool, true, false, cond, List, [], ◌∷◌, length, refl, ◌∙◌, arith, ◌==◌, ne_eqb, lines_of, is_newline, is_closed}
 use Rattle.std.specs.List.{slice_split, onto_first}
-use Rattle.std.proofs.lemmas.Bool.{ne_eqb}
-use Rattle.mat_words.specs.Lines.{lines_of, is_newline}
 use Rattle.mat_words.proofs.Splitting.{some_parts}
-use Rattle.mat_words.specs.Reading.{is_closed}
 
 is_closed-cons : (b : ℕ) (newline : Bool) (parts : List (List ℕ)) → 0 < length parts
     → is_closed (cond newline ([] ∷ parts) (onto_first b parts)) ≡ false

@@ -1,11 +1,7 @@
 -- Digits read from the left, as far as a bound, and digits written from the right, one at a time.
-use Rattle.std.proofs.Common.{◌≡◌, ℕ, zero, suc, ◌+◌, ◌-◌, ◌*◌, ◌/◌, ◌%◌, ◌^◌, ◌<◌, ◌≤◌}
-use Rattle.std.proofs.Common.{min, List, [], ◌∷◌, ◌++◌, map, length, get_or, take, drop, set, refl, ap, ◌∙◌}
-use Rattle.std.proofs.Common.{arith}
+use Rattle.mat_words.proofs.Common.{◌≡◌, ℕ, zero, suc, ◌+◌, ◌-◌, ◌*◌, ◌/◌, ◌%◌, ◌^◌, ◌<◌, ◌≤◌, min, List, [], ◌∷◌, ◌++◌, map, length, get_or, take, drop, set, refl, ap, ◌∙◌, arith, take_more, take_all, map_push, drop-set, append_assoc, drop_all, append-nil, number_push, number_after_ge}
+use Rattle.mat_words.proofs.Common.{digits_of_step, decimal, value_of, magnitude_bound}
 use Rattle.std.specs.Int.Digits.{number_from_digits, digits_of}
-use Rattle.std.proofs.lemmas.List.{take_more, take_all, map_push, drop-set, append_assoc, drop_all, append-nil}
-use Rattle.std.proofs.lemmas.Int.Digits.{number_push, number_after_ge, digits_of_step}
-use Rattle.mat_words.specs.Numbers.{decimal, value_of, magnitude_bound}
 
 -- the value of digits with one more at the end
 pub value_push : (cs : List ℕ) (c : ℕ) → value_of (cs ++ c ∷ []) ≡ value_of cs * 10 + (c - 48)

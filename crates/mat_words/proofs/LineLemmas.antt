@@ -1,13 +1,7 @@
 -- The lines of a text: a text is cut behind its first line, and a text that is written line by line has those lines.
-use Rattle.std.proofs.Common.{◌≡◌, ◌≢◌, ℕ, ◌<◌, true, false, List, [], ◌∷◌, ◌++◌, map, length, refl}
-use Rattle.std.proofs.Common.{sym, ap, ◌∙◌, arith, inl, inr, ◌⊎◌}
+use Rattle.mat_words.proofs.Common.{◌≡◌, ◌≢◌, ℕ, ◌<◌, true, false, List, [], ◌∷◌, ◌++◌, map, length, refl, sym, ap, ◌∙◌, arith, inl, inr, ◌⊎◌, ne_eqb, eq-eqb, cases_eq, append_assoc, append-nil, append_cancel_right, All-nil, All-cons, All-head, All-tail, All-weaker, slice_split_at}
+use Rattle.mat_words.proofs.Common.{join_with_byte-slice_split, is_newline, lines_of, text_of, HasNoNewline, AreLines, IsFirstLine, is_word, words_of}
 use Rattle.std.specs.List.{list_all, join_with_byte}
-use Rattle.std.proofs.lemmas.Bool.{ne_eqb, eq-eqb, cases_eq}
-use Rattle.std.proofs.lemmas.List.{append_assoc, append-nil, append_cancel_right}
-use Rattle.std.proofs.lemmas.List.Elements.{All-nil, All-cons, All-head, All-tail, All-weaker}
-use Rattle.std.proofs.lemmas.List.Splits.{slice_split_at, join_with_byte-slice_split}
-use Rattle.mat_words.specs.Lines.{is_newline, lines_of, text_of, HasNoNewline, AreLines, IsFirstLine}
-use Rattle.mat_words.specs.Words.{is_word, words_of}
 use Rattle.mat_words.proofs.WordLemmas.{words_again, joined_no_newline}
 
 -- a line that stands in front of a text is its first line

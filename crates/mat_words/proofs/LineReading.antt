@@ -1,20 +1,11 @@
 -- The lines of a text: what is read is spelled so, and what is spelled so is read.
-use Rattle.std.proofs.Common.{◌≡◌, ℕ, ◌+◌, ◌<◌, true, false, not, cond, eqb, List, [], ◌∷◌, length, Result, Ok, Err, refl}
-use Rattle.std.proofs.Common.{sym, ap, subst, ◌∙◌, arith}
-use Rattle.std.specs.Prelude.{bytes_eq}
+use Rattle.mat_words.proofs.Common.{◌≡◌, ℕ, ◌+◌, ◌<◌, true, false, not, cond, eqb, List, [], ◌∷◌, length, Result, Ok, Err, refl, sym, ap, subst, ◌∙◌, arith, bytes_eq, ne_eqb, and_from, and_parts, not-false, eqb-true, nil_from_length, bytes_eq-Decides, Line, lines_of, text_of, is_newline, is_space}
+use Rattle.mat_words.proofs.Common.{is_word, words_of, is_well_spaced, WordsLeft, LinesLeft, ◌>>=◌, Fault, line_from, line_at, word_at, keyed_at, is_closed}
 use Rattle.std.specs.List.{list_all, join_with_byte}
-use Rattle.std.proofs.lemmas.Bool.{ne_eqb, and_from, and_parts, not-false, eqb-true}
-use Rattle.std.proofs.lemmas.List.{nil_from_length}
-use Rattle.std.proofs.lemmas.Slice.Eq.{bytes_eq-Decides}
-use Rattle.mat_words.specs.Lines.{Line, lines_of, text_of, is_newline}
-use Rattle.mat_words.specs.Words.{is_space, is_word, words_of, is_well_spaced}
 use Rattle.mat_words.proofs.LineLemmas.{written_line}
 use Rattle.mat_words.proofs.Splitting.{some_parts}
 use Rattle.mat_words.proofs.WordLemmas.{joined_words, joined_laws}
 use Rattle.mat_words.specs.declared.refusal.ReadingFault.TheVariants.{EndsEarly, BadByte, NoWord, UnknownWord}
-use Rattle.mat_words.specs.Cursors.{WordsLeft, LinesLeft}
-use Rattle.mat_words.specs.Steps.{◌>>=◌}
-use Rattle.mat_words.specs.Reading.{Fault, line_from, line_at, word_at, keyed_at, is_closed}
 use Rattle.mat_words.proofs.ReadingSteps.{found-same, bind_found, test_found, refused_found}
 use Rattle.mat_words.proofs.WordReading.{word_found}
 

@@ -1,21 +1,14 @@
 -- Words that are names, where a word stands among names, and names that one more is added to.
-use Rattle.std.proofs.Common.{◌≡◌, ◌≢◌, ℕ, zero, suc, ◌+◌, ◌<◌, ◌^◌, Bool, true, false, not, cond, ◌||◌, inl, inr}
-use Rattle.std.proofs.Common.{List, [], ◌∷◌, ◌++◌, length, get_or, Option, Some, None, Result, Ok, Err, is_some, if◌then◌else◌}
-use Rattle.std.proofs.Common.{refl, sym, ap, subst, ◌∙◌, arith}
+use Rattle.mat_words.proofs.Common.{◌≡◌, ◌≢◌, ℕ, zero, suc, ◌+◌, ◌<◌, ◌^◌, Bool, true, false, not, cond, ◌||◌, inl, inr, List, [], ◌∷◌, ◌++◌, length, get_or, Option, Some, None, Result, Ok, Err, is_some, if◌then◌else◌, refl, sym, ap, subst, ◌∙◌, arith, nat_le, nat_lt, false_from_ne_true, cases_lt}
+use Rattle.mat_words.proofs.Common.{lt-ltb, le-ltb, le-leb, ltb-false, leb-true, and_from, and_parts, map-append, get_or_append_left, get_or_push, length_push, length-append, All-nil, All-push, All-head, All-tail, bytes_eq-Decides, is_word}
 use Rattle.std.specs.Global.{Vec}
 use Rattle.std.specs.List.{All, list_all, list_any, position, position_or_len}
 use Rattle.std.specs.Option.{option_map}
 use Rattle.std.specs.Result.{OnOk, OnErr}
-use Rattle.std.specs.Prelude.{nat_le, nat_lt}
 use Rattle.std.specs.Str.{bytes_eq}
-use Rattle.std.proofs.lemmas.Bool.{false_from_ne_true, cases_lt, lt-ltb, le-ltb, le-leb, ltb-false, leb-true, and_from, and_parts}
 use Rattle.std.proofs.Math.Seq.{get_or-append_seam}
-use Rattle.std.proofs.lemmas.List.{map-append, get_or_append_left, get_or_push, length_push, length-append}
-use Rattle.std.proofs.lemmas.List.Elements.{All-nil, All-push, All-head, All-tail}
 use Rattle.std.proofs.lemmas.Option.{none-some, same_Some}
-use Rattle.std.proofs.lemmas.Slice.Eq.{bytes_eq-Decides}
 use Rattle.indexmap.specs.IndexSet.{insert_key}
-use Rattle.mat_words.specs.Words.{is_word}
 use Rattle.mat_words.specs.Names.{longest_name, is_name, name_index, is_among, with_name, bytes_of, AreDifferent, AreNames}
 
 -- ---- the place of a word

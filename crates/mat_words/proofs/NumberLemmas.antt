@@ -1,20 +1,10 @@
 -- Each number has one spelling: digits of which the first isn't `0` are the digits of what they stand for, since each further digit is the
 -- last one of ten times the value so far and the digit; and the digits of a number stand for it.
-use Rattle.std.proofs.Common.{◌≡◌, ℕ, zero, suc, ◌+◌, ◌-◌, ◌*◌, ◌/◌, ◌%◌, ◌<◌, ◌≤◌, Bool}
-use Rattle.std.proofs.Common.{true, false, cond, eqb, leb, List, [], ◌∷◌, ◌++◌, map, length, get_or, take}
-use Rattle.std.proofs.Common.{refl, sym, ap, subst, inl, inr, ◌∙◌, arith, Option, Some, None, Result, Ok, Err, ℤ, pos}
-use Rattle.std.proofs.Common.{negsuc, neg_ℤ}
-use Rattle.std.specs.Prelude.{int_le, ◌≤ℤ◌, ◌↔◌}
-use Rattle.std.proofs.lemmas.Int.{ints}
-use Rattle.mat_words.specs.declared.numbers.NumberFault.{NumberFault}
-use Rattle.mat_words.specs.declared.numbers.NumberFault.TheVariants.{Range}
+use Rattle.mat_words.proofs.Common.{◌≡◌, ℕ, zero, suc, ◌+◌, ◌-◌, ◌*◌, ◌/◌, ◌%◌, ◌<◌, ◌≤◌, Bool, true, false, cond, eqb, leb, List, [], ◌∷◌, ◌++◌, map, length, get_or, take, refl, sym, ap, subst, inl, inr, ◌∙◌, arith, Option, Some, None, Result, Ok, Err, ℤ, pos, negsuc, neg_ℤ, int_le, ◌≤ℤ◌, ◌↔◌}
+use Rattle.mat_words.proofs.Common.{ints, NumberFault, Range, take_more, take_all, map_push, get_or-take, length-take, nil_from_length, digits_of_step, number_digits_of, first_digits_of, all_below_base_digits_of, le-leb, leb-true, and_parts, and_from, eqb-true, eq-eqb, ne_eqb, cases_eq, numeral}
+use Rattle.mat_words.proofs.Common.{is_digit, is_counting, decimal, value_of, number_of, number_in, IsBetween, is_between, ranged, is_letter, is_word}
 use Rattle.std.specs.List.{list_all}
 use Rattle.std.specs.Int.Digits.{digits_of, number_from_digits, AllBelowBase}
-use Rattle.std.proofs.lemmas.List.{take_more, take_all, map_push, get_or-take, length-take, nil_from_length}
-use Rattle.std.proofs.lemmas.Int.Digits.{digits_of_step, number_digits_of, first_digits_of, all_below_base_digits_of}
-use Rattle.std.proofs.lemmas.Bool.{le-leb, leb-true, and_parts, and_from, eqb-true, eq-eqb, ne_eqb, cases_eq}
-use Rattle.mat_words.specs.Numbers.{numeral, is_digit, is_counting, decimal, value_of, number_of, number_in, IsBetween, is_between, ranged}
-use Rattle.mat_words.specs.Words.{is_letter, is_word}
 use Rattle.mat_words.proofs.DigitLemmas.{value_more, first_counts}
 
 -- digits as bytes

@@ -1,8 +1,5 @@
 -- The steps of a reading, whatever its faults are: what is known where a step after it was reached.
-use Rattle.std.proofs.Common.{◌≡◌, ℕ, Bool, true, false, cond, Result, Ok, Err, refl, ap}
-use Rattle.mat_words.specs.Reading.{Fails, told_by, refusal_by}
-use Rattle.mat_words.specs.Steps.{◌>>=◌}
-use Rattle.mat_words.specs.declared.refusal.Refusal.{Refusal}
+use Rattle.mat_words.proofs.Common.{◌≡◌, ℕ, Bool, true, false, cond, Result, Ok, Err, refl, ap, Fails, told_by, refusal_by, ◌>>=◌, Refusal}
 use Rattle.mat_words.specs.declared.refusal.Refusal.TheVariants as refusals
 
 -- a reading without a fault

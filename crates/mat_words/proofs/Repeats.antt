@@ -1,10 +1,5 @@
 -- Items that are read one after the other, as a loop reads them: the items so far, in front of what is still read, are what is read in all.
-use Rattle.std.proofs.Common.{◌≡◌, ℕ, suc, ◌-◌, ◌+◌, ◌≤◌, ◌<◌, List, [], ◌∷◌, ◌++◌, Result, Ok, Err}
-use Rattle.std.proofs.Common.{refl, sym, ap, ◌∙◌, append_assoc, arith}
-use Rattle.std.proofs.lemmas.List.{append-nil}
-use Rattle.mat_words.specs.Reading.{Fails}
-use Rattle.mat_words.specs.Steps.{◌>>=◌, repeat_at}
-use Rattle.mat_words.specs.declared.refusal.Refusal.{Refusal}
+use Rattle.mat_words.proofs.Common.{◌≡◌, ℕ, suc, ◌-◌, ◌+◌, ◌≤◌, ◌<◌, List, [], ◌∷◌, ◌++◌, Result, Ok, Err, refl, sym, ap, ◌∙◌, append_assoc, arith, append-nil, Fails, ◌>>=◌, repeat_at, Refusal}
 use Rattle.mat_words.specs.declared.refusal.Refusal.TheVariants as refusals
 
 -- what was read before, in front of what is still read

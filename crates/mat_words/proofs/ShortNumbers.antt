@@ -1,12 +1,8 @@
 -- A short number as the first word of a line: its digits hold no space, and are its numeral where no `0` stands in front of others; and the
 -- numerals of the numbers below 1000.
-use Rattle.std.proofs.Common.{◌≡◌, ◌≢◌, ℕ, zero, suc, ◌+◌, ◌-◌, ◌/◌, ◌%◌, ◌<◌, ◌≤◌, true, List, [], ◌∷◌, ◌++◌, length, get_or, take, drop}
-use Rattle.std.proofs.Common.{refl, ◌∙◌, arith, inl, inr, pos, neg_ℤ}
+use Rattle.mat_words.proofs.Common.{◌≡◌, ◌≢◌, ℕ, zero, suc, ◌+◌, ◌-◌, ◌/◌, ◌%◌, ◌<◌, ◌≤◌, true, List, [], ◌∷◌, ◌++◌, length, get_or, take, drop, refl, ◌∙◌, arith, inl, inr, pos, neg_ℤ, and_from, le-leb, cases_eq, get_or-take, length-take, nil_from_length, take_rest, numeral, decimal, is_digit}
+use Rattle.mat_words.proofs.Common.{value_of, parts_of}
 use Rattle.std.specs.List.{list_all}
-use Rattle.std.proofs.lemmas.Bool.{and_from, le-leb, cases_eq}
-use Rattle.std.proofs.lemmas.List.{get_or-take, length-take, nil_from_length, take_rest}
-use Rattle.mat_words.specs.Numbers.{numeral, decimal, is_digit, value_of}
-use Rattle.mat_words.specs.Words.{parts_of}
 use Rattle.mat_words.proofs.DigitLemmas.{decimal_step}
 use Rattle.mat_words.proofs.NumberLemmas.{digit_at, digits_back, numeral_pos}
 

@@ -1,10 +1,6 @@
 -- The parts of a list that is split at each element that passes a test: the first part ends at the first such element.
-use Rattle.std.proofs.Common.{◌≡◌, ◌≢◌, ℕ, zero, suc, ◌+◌, ◌-◌, ◌<◌, Bool, true, false, eqb, List, []}
-use Rattle.std.proofs.Common.{◌∷◌, length, get_or, take, drop, refl, arith, add-one}
+use Rattle.mat_words.proofs.Common.{◌≡◌, ◌≢◌, ℕ, zero, suc, ◌+◌, ◌-◌, ◌<◌, Bool, true, false, eqb, List, [], ◌∷◌, length, get_or, take, drop, refl, arith, add-one, ne_eqb, eq-eqb, take_rest, length-slice_split}
 use Rattle.std.specs.List.{slice_split}
-use Rattle.std.proofs.lemmas.Bool.{ne_eqb, eq-eqb}
-use Rattle.std.proofs.lemmas.List.{take_rest}
-use Rattle.std.proofs.lemmas.List.Splits.{length-slice_split}
 
 -- the first part ends at the first element that passes
 pub split_at : (p : ℕ → Bool) (xs : List ℕ) (i : ℕ) → i < length xs → p (get_or xs i 0) ≡ true

@@ -1,23 +1,11 @@
 -- Each weight has one spelling: no `:` stands in a numeral, so a word is cut at its one `:` into the numerals of which it was made.
-use Rattle.std.proofs.Common.{◌≡◌, ◌≢◌, ℕ, zero, suc, ◌+◌, Bool, true, false, ◌&&◌, cond, List, []}
-use Rattle.std.proofs.Common.{◌∷◌, ◌++◌, length, refl, sym, ap, subst, ◌∙◌, arith, Option, Some, None, Ok, Err}
-use Rattle.std.proofs.Common.{Result, ℤ, pos, negsuc}
-use Rattle.std.specs.Prelude.{◌↔◌, IfOk}
+use Rattle.mat_words.proofs.Common.{◌≡◌, ◌≢◌, ℕ, zero, suc, ◌+◌, Bool, true, false, ◌&&◌, cond, List, [], ◌∷◌, ◌++◌, length, refl, sym, ap, subst, ◌∙◌, arith, Option, Some, None, Ok, Err, Result, ℤ, pos, negsuc, ◌↔◌, IfOk, and_parts, and_from, ne_eqb, all_below_base_digits_of, All-nil, All-cons}
+use Rattle.mat_words.proofs.Common.{slice_split_none, slice_split_at, join_with_byte-slice_split, Weight, NumberFault, Spelling, Range, numeral, number_of, is_between, in_range, ranged, is_byte, is_letter, is_word, weight_word, untied, tied, weight_of_parts, weight_of_word, IsWeightBetween}
+use Rattle.mat_words.proofs.Common.{is_weight_between, weight_in, both_in}
 use Rattle.std.specs.List.{All, list_all, slice_split, join_with_byte}
 use Rattle.std.specs.Ordering.{int_eq}
 use Rattle.std.specs.Int.Digits.{digits_of, AllBelowBase}
-use Rattle.std.proofs.lemmas.Bool.{and_parts, and_from, ne_eqb}
 use Rattle.std.proofs.lemmas.Bool.Decides.{Decides-int_eq}
-use Rattle.std.proofs.lemmas.Int.Digits.{all_below_base_digits_of}
-use Rattle.std.proofs.lemmas.List.Elements.{All-nil, All-cons}
-use Rattle.std.proofs.lemmas.List.Splits.{slice_split_none, slice_split_at, join_with_byte-slice_split}
-use Rattle.mat_sets.specs.declared.weight.Weight.{Weight}
-use Rattle.mat_words.specs.declared.numbers.NumberFault.{NumberFault}
-use Rattle.mat_words.specs.declared.numbers.NumberFault.TheVariants.{Spelling, Range}
-use Rattle.mat_words.specs.Numbers.{numeral, number_of, is_between, in_range, ranged}
-use Rattle.mat_words.specs.Words.{is_byte, is_letter, is_word}
-use Rattle.mat_words.specs.Weights.{weight_word, untied, tied, weight_of_parts, weight_of_word, IsWeightBetween}
-use Rattle.mat_words.specs.Weights.{is_weight_between, weight_in, both_in}
 use Rattle.mat_words.proofs.NumberLemmas.{digit_bytes, spelled, read_again, numeral_word, ranged_ok, between_gives, between_from}
 use Rattle.mat_words.proofs.Splitting.{some_parts}
 use Rattle.mat_words.proofs.WordLemmas.{word_letters}

@@ -1,11 +1,8 @@
 -- A word is text.
-use Rattle.std.proofs.Common.{◌≡◌, ℕ, true, List, [], ◌∷◌, leb, ◌≤◌, arith}
-use Rattle.std.specs.Prelude.{IsUtf8, IsAscii}
+use Rattle.mat_words.proofs.Common.{◌≡◌, ℕ, true, List, [], ◌∷◌, leb, ◌≤◌, arith, IsUtf8, IsAscii, and_parts, leb-true, is_letter, is_word}
 use Rattle.std.specs.List.{list_all}
-use Rattle.std.proofs.lemmas.Bool.{and_parts, leb-true}
 use Rattle.std.proofs.lemmas.Str.{IsUtf8-from_ascii}
 use Rattle.std.proofs.lemmas.Str.Ascii.{IsAscii-nil, IsAscii-cons}
-use Rattle.mat_words.specs.Words.{is_letter, is_word}
 
 letters_ascii : (bs : List ℕ) → list_all is_letter bs ≡ true → IsAscii bs
 letters_ascii [] h = IsAscii-nil

@@ -1,17 +1,10 @@
 -- The words of a line: the test of a well spaced line as one walk from left to right, the sentence that it decides, and lines that are
 -- joined from words. The walk's state says whether a word is to begin at the next byte.
-use Rattle.std.proofs.Common.{◌≡◌, ◌≢◌, ℕ, zero, suc, ◌+◌, ◌-◌, ◌<◌, ◌≤◌, Bool, true, false}
-use Rattle.std.proofs.Common.{◌&&◌, not, cond, eqb, leb, List, [], ◌∷◌, ◌++◌, length, get_or, take, drop, refl, sym, ap}
-use Rattle.std.proofs.Common.{subst, inl, inr, ◌∙◌, arith, zero-add, Option, Some, None}
+use Rattle.mat_words.proofs.Common.{◌≡◌, ◌≢◌, ℕ, zero, suc, ◌+◌, ◌-◌, ◌<◌, ◌≤◌, Bool, true, false, ◌&&◌, not, cond, eqb, leb, List, [], ◌∷◌, ◌++◌, length, get_or, take, drop, refl, sym, ap, subst, inl, inr, ◌∙◌, arith, zero-add, Option, Some, None, ne_eqb, eq-eqb, cases_eq, and_parts, and_from}
+use Rattle.mat_words.proofs.Common.{leb-true, le-leb, common_steps, drop_more, drop_all, take_more, append_assoc, append-nil, length-take, All-from_recursion, slice_split_none, slice_split_at, join_with_byte-slice_split, HasNoNewline, is_space, is_letter, parts_of, is_word, words_of, is_well_spaced}
+use Rattle.mat_words.proofs.Common.{IsWellSpaced}
 use Rattle.std.specs.List.{onto_first, list_all, join_with_byte, AllByRecursion, slice_get}
 use Rattle.std.specs.Option.{MatchOption}
-use Rattle.std.proofs.lemmas.Bool.{ne_eqb, eq-eqb, cases_eq, and_parts, and_from, leb-true, le-leb}
-use Rattle.std.proofs.lemmas.Grind.{common_steps}
-use Rattle.std.proofs.lemmas.List.{drop_more, drop_all, take_more, append_assoc, append-nil, length-take}
-use Rattle.std.proofs.lemmas.List.Elements.{All-from_recursion}
-use Rattle.std.proofs.lemmas.List.Splits.{slice_split_none, slice_split_at, join_with_byte-slice_split}
-use Rattle.mat_words.specs.Lines.{HasNoNewline}
-use Rattle.mat_words.specs.Words.{is_space, is_letter, parts_of, is_word, words_of, is_well_spaced, IsWellSpaced}
 
 -- the walk: whether what is left is words, where a word is to begin at its start, or may go on there
 abbrev pub spaced_from : Bool → List ℕ → Bool

@@ -1,20 +1,8 @@
 -- The words of a line: what is read is spelled so, and what is spelled so is read.
-use Rattle.std.proofs.Common.{◌≡◌, ℕ, zero, suc, ◌≤◌, ◌<◌, ℤ, pos, ◌-ℤ◌, nat_abs, true, false, List}
-use Rattle.std.proofs.Common.{[], ◌∷◌, ◌++◌, length, map, Result, Ok, Err, refl, sym, ap, subst, ◌∙◌, arith}
-use Rattle.std.specs.Prelude.{◌≤ℤ◌, Option, Some, None, is_some}
+use Rattle.mat_words.proofs.Common.{◌≡◌, ℕ, zero, suc, ◌≤◌, ◌<◌, ℤ, pos, ◌-ℤ◌, nat_abs, true, false, List, [], ◌∷◌, ◌++◌, length, map, Result, Ok, Err, refl, sym, ap, subst, ◌∙◌, arith, ◌≤ℤ◌, Option, Some, None, is_some, ints, and_from, All-nil, All-cons, All-head, All-tail, Weight, is_word}
+use Rattle.mat_words.proofs.Common.{is_space, numerals, numeral, number_in, weight_word, weight_in, IsWeightBetween, NumberFault, WordsLeft, parts_left, ◌>>=◌, repeat_at, Fault, word_at, item_as, item_at, number_at, size_at, below_at, weight_at, weights_at}
 use Rattle.std.specs.Borrow.{Bor}
 use Rattle.std.specs.List.{All, list_all}
-use Rattle.std.proofs.lemmas.Int.{ints}
-use Rattle.std.proofs.lemmas.Bool.{and_from}
-use Rattle.std.proofs.lemmas.List.Elements.{All-nil, All-cons, All-head, All-tail}
-use Rattle.mat_sets.specs.declared.weight.Weight.{Weight}
-use Rattle.mat_words.specs.Words.{is_word, is_space}
-use Rattle.mat_words.specs.Numbers.{numerals, numeral, number_in}
-use Rattle.mat_words.specs.Weights.{weight_word, weight_in, IsWeightBetween}
-use Rattle.mat_words.specs.declared.numbers.NumberFault.{NumberFault}
-use Rattle.mat_words.specs.Cursors.{WordsLeft, parts_left}
-use Rattle.mat_words.specs.Steps.{◌>>=◌, repeat_at}
-use Rattle.mat_words.specs.Reading.{Fault, word_at, item_as, item_at, number_at, size_at, below_at, weight_at, weights_at}
 use Rattle.mat_words.proofs.Splitting.{some_parts}
 use Rattle.mat_words.proofs.NumberLemmas.{number_taken, number_again, numeral_word}
 use Rattle.mat_words.proofs.WeightLemmas.{weight_taken, weight_again, weight_word-word}

@@ -1,12 +1,8 @@
 -- The text of a line that is written word by word: behind the first word each further word stands behind a space. Where there is no memory
 -- for a word, what stood there before them all still stands in front.
-use Rattle.std.proofs.Common.{◌≡◌, ℕ, ◌+◌, ◌<◌, ◌≤◌, List, [], ◌∷◌, ◌++◌, length, map, take}
-use Rattle.std.proofs.Common.{get_or, refl, sym, ap, ◌∙◌, arith}
+use Rattle.mat_words.proofs.Common.{◌≡◌, ℕ, ◌+◌, ◌<◌, ◌≤◌, List, [], ◌∷◌, ◌++◌, length, map, take, get_or, refl, sym, ap, ◌∙◌, arith, append_assoc, append-nil, length-append, flat_map_more, take_more, take_all, take-take, take_at, Line, text_of, spaced}
 use Rattle.std.specs.List.{flat_map, join_with_byte}
-use Rattle.std.proofs.lemmas.List.{append_assoc, append-nil, length-append, flat_map_more, take_more, take_all, take-take, take_at}
 use Rattle.std.proofs.lemmas.List.Folds.{flat_map-map}
-use Rattle.mat_words.specs.Lines.{Line, text_of}
-use Rattle.mat_words.specs.Writing.{spaced}
 
 -- words that are joined are the first and each further one behind a space
 join_with_byte-cons : (w : List ℕ) (ws : Line) → join_with_byte 32 (w ∷ ws) ≡ w ++ spaced ws

@@ -1,13 +1,6 @@
 -- Each matroid that is made of one other has the columns of this one, but for what it leaves out.
-use Rattle.std.proofs.Common.{◌&&◌, not, ltb, subst, sym, ap, ◌∙◌, rules}
-use Rattle.std.proofs.lemmas.Result.{IfOk-weaker}
-use Rattle.mat_sets.specs.Sets.{is_member, AllBelow}
-use Rattle.mat_laws.proofs.Independent.{below}
-use Rattle.mat_minors.specs.ContractionLaws.{IsJoined-gives}
+use Rattle.mat_any.proofs.Common.{◌&&◌, not, ltb, subst, sym, ap, ◌∙◌, rules, IfOk-weaker, is_member, AllBelow, below, IsJoined-gives, is_independent, tree_laws, tree_of}
 use Rattle.mat_minors.proofs.MinorColumns.{contracted_columns, restricted_columns, truncated_columns}
-use Rattle.mat_any.specs.Trees.{is_independent}
-use Rattle.mat_any.specs.TreeLaws.{tree_laws}
-use Rattle.mat_any.specs.Views.{tree_of}
 use Rattle.mat_any.proofs.columns_at.+turning.Goals as goal
 
 pub truncation_columns-returns : goal.truncation_columns-returns

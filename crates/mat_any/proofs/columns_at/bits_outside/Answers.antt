@@ -1,6 +1,4 @@
-use Rattle.std.proofs.Common.{◌&&◌, not, ltb, ap, ◌∙◌}
-use Rattle.mat_sets.specs.Sets.{is_member}
-use Rattle.mat_sets.proofs.Ground.{is_member-all_below}
+use Rattle.mat_any.proofs.Common.{◌&&◌, not, ltb, ap, ◌∙◌, is_member, is_member-all_below}
 use Rattle.mat_any.proofs.columns_at.bits_outside.Goals as goal
 
 pub returns : goal.returns

@@ -1,13 +1,6 @@
-use Rattle.std.proofs.Common.{◌≡◌, ◌++◌, [], ◌∷◌, ap, sym, ◌∙◌, rules, arith}
-use Rattle.mat_any.specs.declared.any.AnyMatroid.{the_lemmas}
-use Rattle.std.proofs.lemmas.List.{take_all}
-use Rattle.mat_any.specs.Joined.{trees_in}
-use Rattle.std.proofs.lemmas.Result.{on_ok_weaker}
+use Rattle.mat_any.proofs.Common.{◌≡◌, ◌++◌, [], ◌∷◌, ap, sym, ◌∙◌, rules, arith, the_lemmas, take_all, trees_in, on_ok_weaker, tree_seen, trees_seen, flat_of, flat_trees, tree_of}
 use Rattle.mat_any.proofs.FlatTrees.{flat_more, map_append, nothing_more}
 use Rattle.mat_any.proofs.JoinedMatroids.{node}
-use Rattle.mat_any.specs.Parts.{tree_seen, trees_seen}
-use Rattle.mat_any.specs.Trees.{flat_of, flat_trees}
-use Rattle.mat_any.specs.Views.{tree_of}
 use Rattle.mat_any.proofs.flat.+flattening.Goals as goal
 
 pub push_flat-returns-in-Union : goal.push_flat-returns-in-Union

@@ -1,7 +1,4 @@
-use Rattle.std.proofs.Common.{◌≡◌, ◌++◌, take}
-use Rattle.mat_any.specs.Joined.{trees_in}
-use Rattle.mat_any.specs.Parts.{trees_seen}
-use Rattle.mat_any.specs.Trees.{flat_trees}
+use Rattle.mat_any.proofs.Common.{◌≡◌, ◌++◌, take, trees_in, trees_seen, flat_trees}
 use Rattle.mat_any.proofs.flat.+flattening.Given as goal
 
 abbrev pub invariant-push_each-loop-matroid : goal.invariant-push_each-loop-matroid

@@ -1,6 +1,4 @@
-use Rattle.std.proofs.Common.{subst, sym}
-use Rattle.mat_any.specs.Parts.{IsUnited}
-use Rattle.mat_any.specs.Views.{tree_of}
+use Rattle.mat_any.proofs.Common.{subst, sym, IsUnited, tree_of}
 use Rattle.mat_any.proofs.PartLists.{united_joined}
 use Rattle.mat_any.proofs.flat.united_again.Goals as goal
 

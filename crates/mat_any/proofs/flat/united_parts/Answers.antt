@@ -1,7 +1,4 @@
-use Rattle.std.proofs.Common.{◌<◌, ◌^◌, length, arith, subst, sym}
-use Rattle.mat_any.specs.Joined.{trees_in}
-use Rattle.mat_any.specs.Parts.{IsUnited}
-use Rattle.mat_any.specs.Views.{tree_of}
+use Rattle.mat_any.proofs.Common.{◌<◌, ◌^◌, length, arith, subst, sym, trees_in, IsUnited, tree_of}
 use Rattle.mat_any.proofs.PartLists.{united_from, united_joined}
 use Rattle.mat_any.proofs.flat.united_parts.Goals as goal
 

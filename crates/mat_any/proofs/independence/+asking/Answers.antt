@@ -1,18 +1,8 @@
 -- A restriction asks only of sets of kept elements, a contraction only of sets that are disjoint from what is contracted, joined with a maximal
 -- independent subset of that, and a union runs through the set.
-use Rattle.std.proofs.Common.{◌≡◌, subst, sym, ap, ◌∙◌, rules}
-use Rattle.std.proofs.lemmas.Bool.{both_ways}
-use Rattle.std.proofs.lemmas.Result.{IfOk-weaker}
-use Rattle.mat_sets.specs.Sets.{AllBelow}
-use Rattle.mat_sets.proofs.Ground.{IsSet-union}
-use Rattle.mat_minors.specs.Minors.{is_contracted}
+use Rattle.mat_any.proofs.Common.{◌≡◌, subst, sym, ap, ◌∙◌, rules, both_ways, IfOk-weaker, AllBelow, IsSet-union, is_contracted, contracted_apart, union_in, element_count, is_independent, tree_laws, tree_of}
 use Rattle.mat_minors.proofs.Joining.{dependent_outside, dependent_where_met, restricted_inside}
-use Rattle.mat_minors.proofs.MinorRows.{contracted_apart}
-use Rattle.mat_any.specs.Joined.{union_in}
 use Rattle.mat_any.proofs.JoinedMatroids.{joined_at, size_at, test_at_node}
-use Rattle.mat_any.specs.Trees.{element_count, is_independent}
-use Rattle.mat_any.specs.TreeLaws.{tree_laws}
-use Rattle.mat_any.specs.Views.{tree_of}
 use Rattle.mat_any.proofs.independence.+asking.Goals as goal
 
 pub independent-returns-then-not-is_subset : goal.independent-returns-then-not-is_subset

@@ -1,7 +1,4 @@
-use Rattle.mat_sets.proofs.Ground.{AreDistinct-rising}
-use Rattle.mat_minors.proofs.GreedyReversed.{dual_by_run}
-use Rattle.mat_any.specs.TreeLaws.{tree_laws}
-use Rattle.mat_any.specs.Views.{tree_of}
+use Rattle.mat_any.proofs.Common.{AreDistinct-rising, dual_by_run, tree_laws, tree_of}
 use Rattle.mat_any.proofs.independence.dual_independent.Goals as goal
 
 pub dual_run-requires-clause-below : goal.dual_run-requires-clause-below

@@ -1,12 +1,4 @@
-use Rattle.std.proofs.Common.{◌≡◌, [], ap, ◌∙◌}
-use Rattle.std.proofs.lemmas.Result.{IfOk-weaker}
-use Rattle.mat_sets.proofs.Ground.{AreDistinct-rising}
-use Rattle.mat_laws.specs.GreedyRuns.{grown_along}
-use Rattle.mat_laws.specs.Matroids.{IsMaximal}
-use Rattle.mat_laws.proofs.GreedyRunSets.{run_maximal_of}
-use Rattle.mat_any.specs.Trees.{is_independent}
-use Rattle.mat_any.specs.TreeLaws.{tree_laws}
-use Rattle.mat_any.specs.Views.{tree_of}
+use Rattle.mat_any.proofs.Common.{◌≡◌, [], ap, ◌∙◌, IfOk-weaker, AreDistinct-rising, grown_along, IsMaximal, run_maximal_of, is_independent, tree_laws, tree_of}
 use Rattle.mat_any.proofs.independence.maximal_subset.Goals as goal
 
 pub run-requires-clause-below : goal.run-requires-clause-below

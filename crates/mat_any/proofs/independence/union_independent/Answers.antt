@@ -1,8 +1,4 @@
-use Rattle.std.proofs.Common.{[], ap, ◌∙◌}
-use Rattle.mat_sets.proofs.Ground.{AreDistinct-rising}
-use Rattle.mat_laws.specs.GreedyRuns.{grown_along}
-use Rattle.mat_laws.proofs.GreedyRunSets.{run_length}
-use Rattle.mat_any.specs.Joined.{union_in}
+use Rattle.mat_any.proofs.Common.{[], ap, ◌∙◌, AreDistinct-rising, grown_along, run_length, union_in}
 use Rattle.mat_any.proofs.JoinedLaws.{union_lawful}
 use Rattle.mat_any.proofs.independence.union_independent.Goals as goal
 

@@ -1,29 +1,12 @@
 -- Each kind that is made of others has its row by the law about rows that its minor or dual obeys; the row of a union is read off the search
 -- for moves that ends, whose questions are rows of its matroids.
-use Rattle.std.proofs.Common.{◌≡◌, ◌&&◌, ◌<◌, ltb, length, map, refl, subst, sym, ap, ◌∙◌, rules}
-use Rattle.std.proofs.lemmas.Bool.{ltb-true}
-use Rattle.std.proofs.lemmas.Result.{IfOk-weaker}
-use Rattle.mat_sets.specs.Sets.{all_below, is_member}
-use Rattle.mat_sets.proofs.Ground.{is_member-all_below}
-use Rattle.mat_laws.specs.declared.exchange.Exchange.{Exchange}
-use Rattle.mat_laws.specs.Exchanges.{row_of}
-use Rattle.mat_minors.specs.ContractionLaws.{IsJoined-gives}
-use Rattle.mat_minors.proofs.MinorRows.{truncated_row, restricted_row, restricted_row_outside, contracted_row, contracted_row_outside, outside_joined}
+use Rattle.mat_any.proofs.Common.{◌≡◌, ◌&&◌, ◌<◌, ltb, length, map, refl, subst, sym, ap, ◌∙◌, rules, ltb-true, IfOk-weaker, all_below, is_member, is_member-all_below, Exchange, row_of, IsJoined-gives, truncated_row, restricted_row, restricted_row_outside, contracted_row, contracted_row_outside}
+use Rattle.mat_any.proofs.Common.{outside_joined, AreKept, exchanges_with, IsReaching, AreMatroids, kept_at, part_passes, parts_count, sound_at, elements_in, size_in, test_in, union_in, IsSoundOne, KeepsOne, KeepsUnion, the_lemmas, dual, element_count, is_independent, tree_laws, tree_of}
 use Rattle.mat_union.specs.EndedSearches.{IsEnded}
-use Rattle.mat_union.specs.GrownParts.{AreKept}
-use Rattle.mat_union.specs.Moves.{exchanges_with}
-use Rattle.mat_union.specs.MoveSearches.{IsReaching}
-use Rattle.mat_union.specs.Unions.{AreMatroids}
 use Rattle.mat_union.proofs.AskedRows.{asked_below, reaching_is_ready, row_told}
-use Rattle.mat_union.proofs.SoundMatroids.{kept_at, part_passes, parts_count, sound_at}
-use Rattle.mat_any.specs.Joined.{elements_in, size_in, test_in, union_in, IsSoundOne, KeepsOne, KeepsUnion}
-use Rattle.mat_any.specs.declared.any.AnyMatroid.{the_lemmas}
 use Rattle.mat_any.proofs.DualNests.{count_within, keeps_within, sound_within, test_within}
 use Rattle.mat_any.proofs.JoinedLaws.{each_lawful}
 use Rattle.mat_any.proofs.JoinedMatroids.{joined_at, keeps_of, size_at, test_at_node, union_kept}
-use Rattle.mat_any.specs.Trees.{dual, element_count, is_independent}
-use Rattle.mat_any.specs.TreeLaws.{tree_laws}
-use Rattle.mat_any.specs.Views.{tree_of}
 use Rattle.mat_any.proofs.rows.+rows.Goals as goal
 use Rattle.mat_any.proofs.rows.+rows.Goals.{truncation_row-then-exchange, truncation_row-else-exchange}
 

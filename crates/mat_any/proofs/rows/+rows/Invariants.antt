@@ -1,7 +1,4 @@
-use Rattle.std.proofs.Common.{length, map}
-use Rattle.mat_union.specs.Moves.{exchanges_with}
-use Rattle.mat_union.specs.MoveSearches.{questions_left, IsReaching}
-use Rattle.mat_any.specs.Joined.{test_in}
+use Rattle.mat_any.proofs.Common.{length, map, exchanges_with, questions_left, IsReaching, test_in}
 use Rattle.mat_any.proofs.rows.+rows.Given as goal
 
 abbrev pub invariant-search_from-loop-asked : goal.invariant-search_from-loop-asked

@@ -1,19 +1,7 @@
 -- Each matroid that is made of one other takes an element that this one takes, by the law about rows that its minor or dual obeys; a union is
 -- asked for its parts.
-use Rattle.std.proofs.Common.{◌≡◌, ◌<◌, ◌&&◌, Bool, true, length, ltb, refl, subst, sym, ap, ◌∙◌, rules, arith}
-use Rattle.std.proofs.lemmas.Bool.{and_from, lt-ltb}
-use Rattle.std.proofs.lemmas.Result.{IfOk-weaker}
-use Rattle.mat_sets.specs.Sets.{is_member, minus, union}
-use Rattle.mat_laws.specs.declared.exchange.Exchange.{Exchange}
-use Rattle.mat_laws.specs.Exchanges.{row_of}
-use Rattle.mat_minors.specs.ContractionLaws.{IsJoined-gives}
-use Rattle.mat_minors.proofs.MinorRows.{contracted_row, outside_joined, restricted_row, truncated_row}
-use Rattle.mat_union.specs.GrownParts.{AreKept}
-use Rattle.mat_any.specs.Joined.{union_in, KeepsOne, KeepsUnion}
-use Rattle.mat_any.specs.declared.any.AnyMatroid.{the_lemmas}
-use Rattle.mat_any.specs.Trees.{dual, is_independent}
-use Rattle.mat_any.specs.TreeLaws.{tree_laws}
-use Rattle.mat_any.specs.Views.{tree_of}
+use Rattle.mat_any.proofs.Common.{◌≡◌, ◌<◌, ◌&&◌, Bool, true, length, ltb, refl, subst, sym, ap, ◌∙◌, rules, arith, and_from, lt-ltb, IfOk-weaker, is_member, minus, union, Exchange, row_of, IsJoined-gives, contracted_row, outside_joined, restricted_row, truncated_row, AreKept, union_in, KeepsOne}
+use Rattle.mat_any.proofs.Common.{KeepsUnion, the_lemmas, dual, is_independent, tree_laws, tree_of}
 use Rattle.mat_any.proofs.DualNests.{count_within, keeps_within, sound_within, test_within}
 use Rattle.mat_any.proofs.JoinedMatroids.{joined_at, keeps_of, size_at, test_at_node, union_kept}
 use Rattle.mat_any.proofs.rows.+taking.Goals as goal

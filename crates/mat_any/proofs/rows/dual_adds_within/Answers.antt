@@ -1,9 +1,5 @@
-use Rattle.std.proofs.Common.{refl, sym, ap, subst, ◌∙◌}
-use Rattle.mat_sets.specs.Sets.{IsRising}
-use Rattle.mat_laws.specs.declared.exchange.Exchange.{Exchange}
+use Rattle.mat_any.proofs.Common.{refl, sym, ap, subst, ◌∙◌, IsRising, Exchange, dual_laws, kept_row_is}
 use Rattle.mat_minors.specs.DualRows.{kept_row}
-use Rattle.mat_minors.specs.MinorLaws.{dual_laws}
-use Rattle.mat_minors.proofs.DualExchanges.{kept_row_is}
 use Rattle.mat_any.proofs.rows.dual_adds_within.Goals as goal
 
 pub returns : goal.returns

@@ -1,4 +1,4 @@
-use Rattle.mat_minors.proofs.DualExchanges.{kept_row_told}
+use Rattle.mat_any.proofs.Common.{kept_row_told}
 use Rattle.mat_any.proofs.rows.dual_row_within.Goals as goal
 
 pub returns-clause-row : goal.returns-clause-row

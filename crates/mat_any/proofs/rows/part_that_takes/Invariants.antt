@@ -1,7 +1,5 @@
 -- None of the first parts takes x.
-use Rattle.std.proofs.Common.{◌≡◌, ℕ, ◌<◌, false, map}
-use Rattle.mat_union.specs.Moves.{exchanges_with}
-use Rattle.mat_any.specs.Joined.{test_in}
+use Rattle.mat_any.proofs.Common.{◌≡◌, ℕ, ◌<◌, false, map, exchanges_with, test_in}
 use Rattle.mat_any.proofs.rows.part_that_takes.Given as goal
 
 abbrev pub invariant-loop-i : goal.invariant-loop-i

@@ -1,7 +1,4 @@
-use Rattle.std.proofs.Common.{◌≡◌, ◌<◌, true, length, map, subst}
-use Rattle.std.specs.Prelude.{IfSome}
-use Rattle.mat_union.specs.Moves.{exchanges_with}
-use Rattle.mat_any.specs.Joined.{size_in, test_in}
+use Rattle.mat_any.proofs.Common.{◌≡◌, ◌<◌, true, length, map, subst, IfSome, exchanges_with, size_in, test_in}
 use Rattle.mat_any.proofs.JoinedLaws.{each_lawful}
 use Rattle.mat_any.proofs.rows.place_for.Goals as goal
 

@@ -1,11 +1,6 @@
 -- The part that takes x gives parts of the set with x.
-use Rattle.std.proofs.Common.{◌≡◌, ◌<◌, true, length, map, [], subst, ap, ◌∙◌}
-use Rattle.std.specs.Prelude.{IfSome}
-use Rattle.mat_sets.specs.Sets.{is_member, with_one}
-use Rattle.mat_union.specs.Moves.{exchanges_with}
-use Rattle.mat_union.specs.PartListLaws.{parts_pass}
+use Rattle.mat_any.proofs.Common.{◌≡◌, ◌<◌, true, length, map, [], subst, ap, ◌∙◌, IfSome, is_member, with_one, exchanges_with, parts_pass, test_in, union_in}
 use Rattle.mat_union.proofs.AddedElements.{move_places}
-use Rattle.mat_any.specs.Joined.{test_in, union_in}
 use Rattle.mat_any.proofs.JoinedLaws.{each_lawful}
 use Rattle.mat_any.proofs.rows.union_takes_at_once.Goals as goal
 

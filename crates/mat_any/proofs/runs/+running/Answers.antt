@@ -1,53 +1,28 @@
 -- Each kind that is made of others runs as its law about runs says: a dual by what a run along the reversed order
 -- leaves out, a truncation by the first that a run takes, minors along a changed order, a union by parts that grow. What is kept is kept within;
 -- of a set of a union greedy parts come first, and what else of the set can come into the parts comes in, element after element.
-use Rattle.std.proofs.Common.{◌≡◌, ℕ, ◌+◌, ◌<◌, List, Bool, ◌++◌, [], get_or, length, map, reverse, refl, subst, sym, ap, ◌∙◌, arith, rules}
-use Rattle.std.proofs.lemmas.Result.{IfOk-weaker}
-use Rattle.std.proofs.lemmas.Bool.{or_right}
-use Rattle.std.proofs.lemmas.List.{length-map}
-use Rattle.mat_sets.specs.Families.{family_union}
-use Rattle.mat_sets.specs.Sets.{is_member, AllBelow, AreDistinct, IsSubset, minus, all_below, union}
+use Rattle.mat_any.proofs.Common.{◌≡◌, ℕ, ◌+◌, ◌<◌, List, Bool, ◌++◌, [], get_or, length, map, reverse, refl, subst, sym, ap, ◌∙◌, arith, rules, IfOk-weaker, or_right, length-map, family_union, is_member, AllBelow, AreDistinct, IsSubset, minus, all_below, union, AllBelow-filter, AreDistinct-rising}
+use Rattle.mat_any.proofs.Common.{IsSet-minus, IsSet-all_below, grown_along, IsMatroid, run_maximal_of, IsRunning-end, IsJoined-gives, kept_is, is_contracted, is_dual, is_restricted, is_truncated, contracted_laws, restricted_laws, dual_greedy_of, anew_at, anew_end, anew_none, made_end, made_none}
+use Rattle.mat_any.proofs.Common.{made_part, made_same, made_set, part_stays, AreMadeSo, rest_below, taken_are, taken_inside, taken_more, taken_none, anew_same, anew_set, kept_more, part_passes, parts_count, sound_at, test_is, AreKeptAnew, AreKeptSo, AreKept, all_moved, parts_pass, part_at}
+use Rattle.mat_any.proofs.Common.{AreParts, KeepsAny, elements_in, size_in, test_in, union_in, IsSoundOne, KeepsOne, KeepsUnion, the_lemmas, dual, element_count, is_independent, tree_laws, tree_of}
 use Rattle.mat_sets.proofs.DistinctLists.{AreDistinct-filter}
-use Rattle.mat_sets.proofs.Ground.{AllBelow-filter, AreDistinct-rising, IsSet-minus, IsSet-all_below}
 use Rattle.mat_sets.proofs.Sums.{AllBelow-at}
-use Rattle.mat_laws.specs.GreedyRuns.{grown_along}
-use Rattle.mat_laws.specs.Matroids.{IsMatroid}
-use Rattle.mat_laws.proofs.GreedyRunSets.{run_maximal_of}
-use Rattle.mat_laws.proofs.GreedyRunSteps.{IsRunning-end}
-use Rattle.mat_minors.specs.ContractionLaws.{IsJoined-gives}
-use Rattle.mat_minors.proofs.DualExchanges.{kept_is}
 use Rattle.mat_minors.proofs.DualNext.{kept_of_next}
-use Rattle.mat_minors.specs.Minors.{is_contracted, is_dual, is_restricted, is_truncated}
-use Rattle.mat_minors.specs.MinorLaws.{contracted_laws, restricted_laws}
-use Rattle.mat_minors.proofs.GreedyReversed.{dual_greedy_of}
 use Rattle.mat_minors.proofs.MinorRuns.{contracted_greedy, restricted_along}
 use Rattle.mat_minors.proofs.RunOrders.{after_below, after_distinct, turned_below, turned_distinct}
 use Rattle.mat_union.proofs.FillingParts.{start_growing}
 use Rattle.mat_union.proofs.GrowingParts.{placed_grow}
 use Rattle.mat_union.proofs.GrowingSteps.{spanned_grown}
 use Rattle.mat_union.proofs.GrowthLoops.{is_spanned}
-use Rattle.mat_union.proofs.MadeMoves.{anew_at, anew_end, anew_none, made_end, made_none, made_part, made_same, made_set, part_stays, AreMadeSo}
 use Rattle.mat_union.proofs.MovedSets.{all_moved_at}
 use Rattle.mat_union.proofs.PlacedElements.{search_places}
-use Rattle.mat_union.proofs.PartsOfSets.{rest_below, taken_are, taken_inside, taken_more, taken_none}
-use Rattle.mat_union.proofs.SoundMatroids.{anew_same, anew_set, kept_more, part_passes, parts_count, sound_at, test_is, AreKeptAnew, AreKeptSo}
 use Rattle.mat_union.proofs.StuckParts.{next_below}
 use Rattle.mat_union.proofs.UnionRuns.{spanned_turn, first_run_are, first_run_holds, placed_turn, running_first, running_more, turn_stands}
-use Rattle.mat_union.specs.GrownParts.{AreKept}
-use Rattle.mat_union.specs.Moves.{all_moved}
-use Rattle.mat_union.specs.PartListLaws.{parts_pass}
 use Rattle.mat_union.specs.Placings.{ArePlaced, IsPlaceSearch, IsStuckSearch}
-use Rattle.mat_union.specs.Unions.{part_at, AreParts}
-use Rattle.mat_any.specs.AnyKeeps.{KeepsAny}
-use Rattle.mat_any.specs.Joined.{elements_in, size_in, test_in, union_in, IsSoundOne, KeepsOne, KeepsUnion}
-use Rattle.mat_any.specs.declared.any.AnyMatroid.{the_lemmas}
 use Rattle.mat_any.proofs.DualNests.{count_within, keeps_within, sound_within, test_within}
 use Rattle.mat_any.proofs.JoinedLaws.{each_lawful, union_lawful}
 use Rattle.mat_any.proofs.JoinedMatroids.{joined_at, keeps_at, size_at, test_at_node}
 use Rattle.mat_any.proofs.WholeRuns.{growing_ends, growing_more, growing_within, maximal_whole, run_of_rest}
-use Rattle.mat_any.specs.Trees.{dual, element_count, is_independent}
-use Rattle.mat_any.specs.TreeLaws.{tree_laws}
-use Rattle.mat_any.specs.Views.{tree_of}
 use Rattle.mat_any.proofs.runs.+running.Goals as goal
 use Rattle.mat_any.proofs.runs.+running.Goals.{make_moves-then-is_entered_or_left+in_ok-next+in_ok-one, make_moves-else-is_entered_or_left, take_turn-then-stands-via-then-stands, take_turn-then-stands-via-else-stands+then-not-contains}
 

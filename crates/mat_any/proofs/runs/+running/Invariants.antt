@@ -1,13 +1,5 @@
-use Rattle.std.proofs.Common.{[], map}
-use Rattle.mat_sets.specs.Families.{family_union}
-use Rattle.mat_laws.proofs.GreedyRunSteps.{IsRunning}
+use Rattle.mat_any.proofs.Common.{[], map, family_union, IsRunning, AreMadeSo, AreTakenSo, AreKeptAnew, AreKeptSo, AreGrowing, AreKept, all_moved, size_in, test_in, union_in, KeepsOne}
 use Rattle.mat_laws.proofs.Growing.{IsGrowing}
-use Rattle.mat_union.proofs.MadeMoves.{AreMadeSo}
-use Rattle.mat_union.proofs.PartsOfSets.{AreTakenSo}
-use Rattle.mat_union.proofs.SoundMatroids.{AreKeptAnew, AreKeptSo}
-use Rattle.mat_union.specs.GrownParts.{AreGrowing, AreKept}
-use Rattle.mat_union.specs.Moves.{all_moved}
-use Rattle.mat_any.specs.Joined.{size_in, test_in, union_in, KeepsOne}
 use Rattle.mat_any.proofs.runs.+running.Given as goal
 
 abbrev pub invariant-grown_parts-loop-x : goal.invariant-grown_parts-loop-x

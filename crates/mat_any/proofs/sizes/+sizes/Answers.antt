@@ -1,7 +1,4 @@
-use Rattle.std.proofs.Common.{sym, ◌∙◌, rules}
-use Rattle.mat_union.proofs.SoundMatroids.{sound_at}
-use Rattle.mat_any.specs.Joined.{elements_in, size_in, IsSoundOne}
-use Rattle.mat_any.specs.declared.any.AnyMatroid.{the_lemmas}
+use Rattle.mat_any.proofs.Common.{sym, ◌∙◌, rules, sound_at, elements_in, size_in, IsSoundOne, the_lemmas}
 use Rattle.mat_any.proofs.JoinedMatroids.{joined_at, size_at}
 use Rattle.mat_any.proofs.sizes.+sizes.Goals as goal
 

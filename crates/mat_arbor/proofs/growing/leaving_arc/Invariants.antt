@@ -1,6 +1,4 @@
-use Rattle.std.proofs.Common.{ℕ, ◌<◌}
-use Rattle.mat_sets.specs.Graphs.{ends_of}
-use Rattle.mat_arbor.specs.Growing.{Leaves}
+use Rattle.mat_arbor.proofs.Common.{ℕ, ◌<◌, ends_of, Leaves}
 use Rattle.mat_arbor.proofs.growing.leaving_arc.Given as goal
 
 -- no arc before place a leaves the set

@@ -1,8 +1,4 @@
-use Rattle.std.proofs.Common.{◌∙◌, ◌-◌, ◌<◌, ℕ, suc, List, ap, length, subst, sym, arith}
-use Rattle.mat_sets.specs.Graphs.{ends_of}
-use Rattle.mat_sets.specs.Sets.{with_one}
-use Rattle.mat_sets.proofs.Cardinalities.{length-with_one}
-use Rattle.mat_arbor.specs.Growing.{IsGrownTree}
+use Rattle.mat_arbor.proofs.Common.{◌∙◌, ◌-◌, ◌<◌, ℕ, suc, List, ap, length, subst, sym, arith, ends_of, with_one, length-with_one, IsGrownTree}
 use Rattle.mat_arbor.proofs.GrownTrees.{IsGrownTree-root, IsGrownTree-more, grown_size}
 use Rattle.mat_arbor.proofs.growing.reached_from.Goals as goal
 

@@ -1,6 +1,4 @@
-use Rattle.std.proofs.Common.{◌-◌, suc, length}
-use Rattle.mat_sets.specs.Graphs.{ends_of}
-use Rattle.mat_arbor.specs.Growing.{IsGrownTree}
+use Rattle.mat_arbor.proofs.Common.{◌-◌, suc, length, ends_of, IsGrownTree}
 use Rattle.mat_arbor.proofs.growing.reached_from.Given as goal
 
 abbrev pub invariant-loop-a : goal.invariant-loop-a

@@ -1,8 +1,4 @@
-use Rattle.std.proofs.Common.{◌∙◌, ℕ, ◌<◌, inl, inr, List, ap, length, subst, sym, arith}
-use Rattle.std.proofs.lemmas.Bool.{cases_lt}
-use Rattle.mat_sets.specs.Sets.{minus}
-use Rattle.mat_sets.proofs.Ground.{IsSet-length}
-use Rattle.mat_arbor.specs.Arborescences.{IsUnreachedSet}
+use Rattle.mat_arbor.proofs.Common.{◌∙◌, ℕ, ◌<◌, inl, inr, List, ap, length, subst, sym, arith, cases_lt, minus, IsSet-length, IsUnreachedSet}
 use Rattle.mat_arbor.proofs.GrownTrees.{grown_set, grown_spans, unreached_rest}
 use Rattle.mat_arbor.proofs.growing.unreached_from.Goals as goal
 

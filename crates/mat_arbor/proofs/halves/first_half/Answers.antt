@@ -1,6 +1,4 @@
-use Rattle.std.proofs.Common.{[], ◌∷◌, ◌++◌, ◌∙◌, ap}
-use Rattle.mat_sets.specs.declared.weight.Weight.{Weight}
-use Rattle.mat_arbor.specs.Halves.{weight_of}
+use Rattle.mat_arbor.proofs.Common.{[], ◌∷◌, ◌++◌, ◌∙◌, ap, Weight, weight_of}
 use Rattle.mat_arbor.proofs.Values.{mapped_more}
 use Rattle.mat_arbor.proofs.halves.first_half.Goals as goal
 

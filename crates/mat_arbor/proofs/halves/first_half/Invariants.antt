@@ -1,5 +1,4 @@
-use Rattle.std.proofs.Common.{◌≡◌, map, take}
-use Rattle.mat_arbor.specs.Halves.{weight_of}
+use Rattle.mat_arbor.proofs.Common.{◌≡◌, map, take, weight_of}
 use Rattle.mat_arbor.proofs.halves.first_half.Given as goal
 
 abbrev pub invariant-loop-x : goal.invariant-loop-x

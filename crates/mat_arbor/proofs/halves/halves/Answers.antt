@@ -1,8 +1,4 @@
-use Rattle.std.proofs.Common.{◌∙◌, ◌<◌, ◌^◌, get_or, length, ap, subst, sym, arith}
-use Rattle.std.proofs.lemmas.List.{get_or-map, length-map}
-use Rattle.std.proofs.lemmas.List.Elements.{All-from_get_or}
-use Rattle.mat_sets.specs.Weights.{weight_at, zero_weight, IsWeightWithin}
-use Rattle.mat_arbor.specs.Halves.{weight_of}
+use Rattle.mat_arbor.proofs.Common.{◌∙◌, ◌<◌, ◌^◌, get_or, length, ap, subst, sym, arith, get_or-map, length-map, All-from_get_or, weight_at, zero_weight, IsWeightWithin, weight_of}
 use Rattle.mat_arbor.proofs.Sizes.{weight_of-within}
 use Rattle.mat_arbor.proofs.halves.halves.Goals as goal
 

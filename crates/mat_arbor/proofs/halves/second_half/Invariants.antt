@@ -1,5 +1,4 @@
-use Rattle.std.proofs.Common.{◌≡◌, ℕ, ◌<◌, length}
-use Rattle.mat_sets.specs.Weights.{◌⊖◌, negated, weight_at}
+use Rattle.mat_arbor.proofs.Common.{◌≡◌, ℕ, ◌<◌, length, ◌⊖◌, negated, weight_at}
 use Rattle.mat_arbor.proofs.halves.second_half.Given as goal
 
 abbrev pub invariant-loop-a : goal.invariant-loop-a

@@ -1,8 +1,6 @@
 -- Members are distinct, so each weight is added once to what stood there before; the sum stays within the bounds that the call asks for.
 use mir.Syntax.{w128}
-use Rattle.std.proofs.Common.{◌≡◌, ◌∙◌, ◌<◌, get_or, length, pos, arith, to_z, of_z}
-use Rattle.std.proofs.lemmas.Int.{ints, to_z-of_z}
-use Rattle.std.proofs.lemmas.List.{get_or_default}
+use Rattle.mat_arbor.proofs.Common.{◌≡◌, ◌∙◌, ◌<◌, get_or, length, pos, arith, to_z, of_z, ints, to_z-of_z, get_or_default}
 use Rattle.mat_sets.proofs.Sums.{AllBelow-at}
 use Rattle.mat_arbor.proofs.Adding.{added_more, added_next}
 use Rattle.mat_arbor.proofs.held.add_at_members.Goals as goal

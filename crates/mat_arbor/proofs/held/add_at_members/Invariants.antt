@@ -1,6 +1,4 @@
-use Rattle.std.proofs.Common.{length, take}
-use Rattle.mat_sets.specs.Sets.{is_member}
-use Rattle.mat_cuts.specs.Checking.{IsAdded}
+use Rattle.mat_arbor.proofs.Common.{length, take, is_member, IsAdded}
 use Rattle.mat_arbor.proofs.held.add_at_members.Given as goal
 
 abbrev pub invariant-loop-v : goal.invariant-loop-v

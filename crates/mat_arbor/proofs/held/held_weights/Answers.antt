@@ -1,10 +1,6 @@
 -- The weight of the sets around the head of an arc, its cost and what is left of it are small, so the sum and the difference fit; by the cuts they are
 -- the weight of the sets that hold both ends.
-use Rattle.std.proofs.Common.{◌∙◌, ◌<◌, length, pos, arith}
-use Rattle.std.proofs.lemmas.Int.{ints}
-use Rattle.std.proofs.lemmas.List.{get_or_default}
-use Rattle.mat_sets.specs.Graphs.{ends_of}
-use Rattle.mat_cuts.specs.Costs.{cost_at}
+use Rattle.mat_arbor.proofs.Common.{◌∙◌, ◌<◌, length, pos, arith, ints, get_or_default, ends_of, cost_at}
 use Rattle.mat_arbor.proofs.Sizes.{around_small, held_parts, left_small, parts_low, AreHeldWeights-more}
 use Rattle.mat_arbor.proofs.held.held_weights.Goals as goal
 

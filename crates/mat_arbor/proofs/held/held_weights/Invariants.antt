@@ -1,5 +1,4 @@
-use Rattle.mat_sets.specs.Graphs.{ends_of}
-use Rattle.mat_arbor.specs.Held.{AreHeldWeights}
+use Rattle.mat_arbor.proofs.Common.{ends_of, AreHeldWeights}
 use Rattle.mat_arbor.proofs.held.held_weights.Given as goal
 
 abbrev pub invariant-loop-a : goal.invariant-loop-a

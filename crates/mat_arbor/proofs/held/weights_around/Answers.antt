@@ -1,13 +1,7 @@
 -- A next set adds its weight at the vertices that it holds, and at no other; the sums stay small, since there are few sets.
 use mir.Syntax.{w128}
-use Rattle.std.proofs.Common.{◌≡◌, ◌∙◌, ◌^◌, take, sym, ap, subst, arith, to_z, of_z}
-use Rattle.std.proofs.lemmas.Int.{ints}
-use Rattle.std.proofs.lemmas.List.{length-take-le}
-use Rattle.mat_sets.specs.Sets.{is_member}
+use Rattle.mat_arbor.proofs.Common.{◌≡◌, ◌∙◌, ◌^◌, take, sym, ap, subst, arith, to_z, of_z, ints, length-take-le, is_member, weight_where, CutWeight, IsCutWithin}
 use Rattle.mat_sets.proofs.EachItem.{AllByRecursion-at, AllByRecursion-take}
-use Rattle.mat_cuts.specs.Cuts.{weight_where}
-use Rattle.mat_cuts.specs.declared.cut_weight.CutWeight.{CutWeight}
-use Rattle.mat_arbor.specs.Held.{IsCutWithin}
 use Rattle.mat_arbor.proofs.Adding.{around_more, around_within}
 use Rattle.mat_arbor.proofs.held.weights_around.Goals as goal
 

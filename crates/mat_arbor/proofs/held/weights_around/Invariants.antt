@@ -1,6 +1,4 @@
-use Rattle.std.proofs.Common.{◌≡◌, ℕ, ◌<◌, length, take}
-use Rattle.mat_cuts.specs.Costs.{cost_at}
-use Rattle.mat_arbor.specs.Held.{weight_around}
+use Rattle.mat_arbor.proofs.Common.{◌≡◌, ℕ, ◌<◌, length, take, cost_at, weight_around}
 use Rattle.mat_arbor.proofs.held.weights_around.Given as goal
 
 abbrev pub invariant-loop-cut : goal.invariant-loop-cut

@@ -1,17 +1,7 @@
 -- The costs are raised to numbers, whose cheapest tree is priced by cuts; the weights that the cuts hold at each arc split its cost in two halves,
 -- which show that the tree is least. Where the search ends at a set that no arc enters, there is no arborescence.
-use Rattle.std.proofs.Common.{◌∙◌, ◌^◌, ◌≤ℤ◌, ℕ, List, pos, length, refl, subst, sym, ap, arith}
-use Rattle.std.proofs.lemmas.Int.{ints}
-use Rattle.std.proofs.lemmas.List.{length-map}
-use Rattle.std.proofs.lemmas.List.Elements.{All-get_or}
+use Rattle.mat_arbor.proofs.Common.{◌∙◌, ◌^◌, ◌≤ℤ◌, ℕ, List, pos, length, refl, subst, sym, ap, arith, ints, length-map, All-get_or, ends_of, unentered_has_none, IsWideCost, ArePriced, IsRightlyPriced, CutWeight, raised_value, AreHeldWeights, IsCutWithin}
 use Rattle.std.specs.List.{AllByRecursion}
-use Rattle.mat_sets.specs.Graphs.{ends_of}
-use Rattle.mat_sets.proofs.Crossings.{unentered_has_none}
-use Rattle.mat_cuts.specs.Costs.{IsWideCost}
-use Rattle.mat_cuts.specs.Pricing.{ArePriced, IsRightlyPriced}
-use Rattle.mat_cuts.specs.declared.cut_weight.CutWeight.{CutWeight}
-use Rattle.mat_arbor.specs.Halves.{raised_value}
-use Rattle.mat_arbor.specs.Held.{AreHeldWeights, IsCutWithin}
 use Rattle.mat_arbor.proofs.Sizes.{cuts_low, cuts_within, held_most}
 use Rattle.mat_arbor.proofs.Splits.{numbers_wide, split_is_right, total_small}
 use Rattle.mat_arbor.proofs.least.least_among.Goals as goal

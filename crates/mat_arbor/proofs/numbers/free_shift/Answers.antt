@@ -1,5 +1,4 @@
-use Rattle.std.proofs.Common.{◌∙◌, ℕ, ◌+◌, ◌-◌, ◌*◌, ◌<◌, List, ap, length, refl, sym, arith}
-use Rattle.mat_sets.specs.Sets.{minus}
+use Rattle.mat_arbor.proofs.Common.{◌∙◌, ℕ, ◌+◌, ◌-◌, ◌*◌, ◌<◌, List, ap, length, refl, sym, arith, minus}
 use Rattle.mat_arbor.proofs.Gaps.{free_gap, IsFreeShift-gap}
 use Rattle.mat_arbor.proofs.numbers.free_shift.Goals as goal
 

@@ -1,5 +1,4 @@
-use Rattle.std.proofs.Common.{arith}
-use Rattle.std.proofs.lemmas.Int.{ints}
+use Rattle.mat_arbor.proofs.Common.{arith, ints}
 use Rattle.mat_arbor.proofs.Values.{product_is}
 use Rattle.mat_arbor.proofs.numbers.raised_value.Goals as goal
 

@@ -1,8 +1,5 @@
 use mir.Syntax.{w128}
-use Rattle.std.proofs.Common.{◌≡◌, [], ◌∷◌, ◌++◌, ◌∙◌, ℤ, ap, arith, to_z, of_z}
-use Rattle.std.proofs.lemmas.Int.{ints}
-use Rattle.mat_sets.specs.Weights.{zero_weight}
-use Rattle.mat_arbor.specs.Halves.{raised_value}
+use Rattle.mat_arbor.proofs.Common.{◌≡◌, [], ◌∷◌, ◌++◌, ◌∙◌, ℤ, ap, arith, to_z, of_z, ints, zero_weight, raised_value}
 use Rattle.mat_arbor.proofs.Values.{mapped_more}
 use Rattle.mat_arbor.proofs.numbers.raised_values.Goals as goal
 

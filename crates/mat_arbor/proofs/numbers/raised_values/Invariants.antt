@@ -1,5 +1,4 @@
-use Rattle.std.proofs.Common.{◌≡◌, map, take}
-use Rattle.mat_arbor.specs.Halves.{raised_value}
+use Rattle.mat_arbor.proofs.Common.{◌≡◌, map, take, raised_value}
 use Rattle.mat_arbor.proofs.numbers.raised_values.Given as goal
 
 abbrev pub invariant-loop-cost : goal.invariant-loop-cost

@@ -1,4 +1,4 @@
-use Rattle.std.proofs.Common.{arith, get_or, length}
+use Rattle.mat_arbor.proofs.Common.{arith, get_or, length}
 use Rattle.mat_arbor.proofs.Gaps.{gap_below, AreTaken-more}
 use Rattle.mat_arbor.proofs.numbers.taken_gaps.Goals as goal
 

@@ -1,7 +1,5 @@
 -- Each turn packs one arborescence more and leaves enough live arcs for the others; a vertex set that too few arcs enter shows that no packing exists.
-use Rattle.std.proofs.Common.{◌∙◌, length, ap, arith}
-use Rattle.mat_sets.specs.Graphs.{ends_of}
-use Rattle.mat_sets.specs.Sets.{all_below}
+use Rattle.mat_branch.proofs.Common.{◌∙◌, length, ap, arith, ends_of, all_below}
 use Rattle.mat_branch.specs.declared.branching.Branch.TheVariants.{All, Cut}
 use Rattle.mat_branch.proofs.Packing.{entered_from_none, no_arborescences_told, seldom_from_some, IsPacking-done, IsPacking-push, IsPacking-start}
 use Rattle.mat_branch.proofs.branching.disjoint.Goals as goal

@@ -1,5 +1,4 @@
-use Rattle.std.proofs.Common.{length}
-use Rattle.mat_sets.specs.Graphs.{ends_of}
+use Rattle.mat_branch.proofs.Common.{length, ends_of}
 use Rattle.mat_branch.proofs.Packing.{IsPacking}
 use Rattle.mat_branch.proofs.branching.disjoint.Given as goal
 

@@ -1,7 +1,4 @@
-use Rattle.std.proofs.Common.{◌≡◌, ◌+◌, ◌∙◌, ◌&&◌, not, length, ap, subst, sym, arith}
-use Rattle.mat_sets.specs.Graphs.{ends_of, enters}
-use Rattle.mat_sets.specs.Sets.{is_member}
-use Rattle.mat_sets.proofs.Counting.{IsCounted, IsCounted-few, IsCounted-put, IsCounted-skip, IsCounted-start}
+use Rattle.mat_branch.proofs.Common.{◌≡◌, ◌+◌, ◌∙◌, ◌&&◌, not, length, ap, subst, sym, arith, ends_of, enters, is_member, IsCounted, IsCounted-few, IsCounted-put, IsCounted-skip, IsCounted-start}
 use Rattle.mat_branch.proofs.EnteringCounts.{IsCounted-entering}
 use Rattle.mat_branch.proofs.entering.entering_count.Goals as goal
 use Rattle.mat_branch.proofs.entering.entering_count.Goals.{then-comes_in, else-comes_in}

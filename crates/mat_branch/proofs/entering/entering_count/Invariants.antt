@@ -1,5 +1,4 @@
-use Rattle.mat_sets.specs.Graphs.{ends_of, enters}
-use Rattle.mat_sets.proofs.Counting.{IsCounted}
+use Rattle.mat_branch.proofs.Common.{ends_of, enters, IsCounted}
 use Rattle.mat_branch.proofs.entering.entering_count.Given as goal
 
 abbrev pub invariant-loop-a : goal.invariant-loop-a

@@ -1,7 +1,5 @@
 -- An arc that leaves the reached vertices and can be spared is taken: the tree grows by it and its head, until all vertices are reached.
-use Rattle.std.proofs.Common.{◌∙◌, ◌+◌, length, ap, subst, sym, arith}
-use Rattle.mat_sets.specs.Graphs.{ends_of}
-use Rattle.mat_sets.specs.Sets.{with_one, without_one}
+use Rattle.mat_branch.proofs.Common.{◌∙◌, ◌+◌, length, ap, subst, sym, arith, ends_of, with_one, without_one}
 use Rattle.mat_branch.proofs.Choices.{IsGrowing, IsGrowing-end, IsGrowing-start, IsGrowing-take}
 use Rattle.mat_branch.proofs.GrowthSteps.{Grows-start}
 use Rattle.mat_branch.proofs.growing.grow_tree.Goals as goal

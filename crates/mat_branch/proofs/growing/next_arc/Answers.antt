@@ -1,10 +1,6 @@
 -- Each live arc is looked at once: it is refused, or doesn't leave what is reached, or can be spared and taken. At the end of the list all arcs that
 -- leave would be refused, which cannot be while a vertex is not reached.
-use Rattle.std.proofs.Common.{◌∙◌, ◌<◌, ◌+◌, ◌≡◌, length, get_or, ap, subst, sym, inl, inr, arith}
-use Rattle.mat_sets.specs.Graphs.{ends_of}
-use Rattle.mat_sets.specs.Sets.{is_member, with_one}
-use Rattle.mat_sets.proofs.Ground.{below_member}
-use Rattle.mat_branch.specs.Growth.{IsRefused}
+use Rattle.mat_branch.proofs.Common.{◌∙◌, ◌<◌, ◌+◌, ◌≡◌, length, get_or, ap, subst, sym, inl, inr, arith, ends_of, is_member, with_one, below_member, IsRefused}
 use Rattle.mat_branch.proofs.Choices.{item_live, IsScanned, IsScanned-end, IsScanned-refuse, IsScanned-skip}
 use Rattle.mat_branch.proofs.growing.next_arc.Goals as goal
 use Rattle.mat_branch.proofs.growing.next_arc.Goals.{then-contains+then-not-contains+then-not-contains-2+in_ok-can_spare+else-branch+in_ok-insert, else-contains, else-contains-via-then-contains+then-not-contains+else-not-contains-2, else-contains-via-then-contains+else-not-contains, else-contains-via-else-contains}

@@ -1,4 +1,4 @@
-use Rattle.mat_sets.specs.Graphs.{ends_of}
+use Rattle.mat_branch.proofs.Common.{ends_of}
 use Rattle.mat_branch.proofs.Choices.{IsScanned}
 use Rattle.mat_branch.proofs.growing.next_arc.Given as goal
 

@@ -1,5 +1,4 @@
-use Rattle.std.proofs.Common.{length}
-use Rattle.mat_sets.specs.Graphs.{ends_of}
+use Rattle.mat_branch.proofs.Common.{length, ends_of}
 use Rattle.mat_branch.proofs.Packing.{disjoint_or_seldom_entered as law}
 use Rattle.mat_branch.proofs.laws.disjoint_or_seldom_entered.Goals as goal
 

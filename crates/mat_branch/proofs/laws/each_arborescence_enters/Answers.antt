@@ -1,5 +1,4 @@
-use Rattle.std.proofs.Common.{length}
-use Rattle.mat_sets.specs.Graphs.{ends_of}
+use Rattle.mat_branch.proofs.Common.{length, ends_of}
 use Rattle.mat_branch.proofs.Packing.{each_enters}
 use Rattle.mat_branch.proofs.laws.each_arborescence_enters.Goals as goal
 

@@ -1,5 +1,4 @@
-use Rattle.std.proofs.Common.{length}
-use Rattle.mat_sets.specs.Graphs.{ends_of}
+use Rattle.mat_branch.proofs.Common.{length, ends_of}
 use Rattle.mat_branch.proofs.Packing.{seldom_entered_has_none as law}
 use Rattle.mat_branch.proofs.laws.seldom_entered_has_none.Goals as goal
 

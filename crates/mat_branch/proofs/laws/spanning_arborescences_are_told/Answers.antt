@@ -1,5 +1,4 @@
-use Rattle.std.proofs.Common.{length}
-use Rattle.mat_sets.specs.Graphs.{ends_of}
+use Rattle.mat_branch.proofs.Common.{length, ends_of}
 use Rattle.mat_branch.proofs.SpanningTests.{spanning_is_told}
 use Rattle.mat_branch.proofs.laws.spanning_arborescences_are_told.Goals as goal
 

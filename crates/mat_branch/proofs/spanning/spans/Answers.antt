@@ -1,5 +1,4 @@
-use Rattle.std.proofs.Common.{length, arith}
-use Rattle.mat_sets.specs.Graphs.{ends_of}
+use Rattle.mat_branch.proofs.Common.{length, arith, ends_of}
 use Rattle.mat_branch.proofs.SpanningTests.{told_cut, told_entered}
 use Rattle.mat_branch.proofs.spanning.spans.Goals as goal
 use Rattle.mat_branch.proofs.spanning.spans.Goals.{in-Some, in-None}

@@ -1,7 +1,4 @@
-use Rattle.std.proofs.Common.{◌<◌, ◌∙◌, length, ap, subst, sym}
-use Rattle.mat_sets.specs.Graphs.{ends_of}
-use Rattle.mat_sets.specs.Sets.{AllBelow}
-use Rattle.mat_sets.proofs.Ground.{below_member, IsSet-without_one}
+use Rattle.mat_branch.proofs.Common.{◌<◌, ◌∙◌, length, ap, subst, sym, ends_of, AllBelow, below_member, IsSet-without_one}
 use Rattle.mat_branch.proofs.FlowTests.{TellsSpare-cut, TellsSpare-none, TellsSpare-paths}
 use Rattle.mat_branch.proofs.spare.can_spare.Goals as goal
 

@@ -1,5 +1,4 @@
-use Rattle.std.proofs.Common.{arith}
-use Rattle.mat_sets.specs.Graphs.{ends_of}
+use Rattle.mat_branch.proofs.Common.{arith, ends_of}
 use Rattle.mat_branch.proofs.FlowTests.{AreEntered-served, AreServed-paths, AreServed-root}
 use Rattle.mat_branch.proofs.spare.seldom_entered.Goals as goal
 use Rattle.mat_branch.proofs.spare.seldom_entered.Goals.{then-v-root+in_ok-cut+in-Paths+in-Paths-1, then-v-root+in_ok-cut+in-Paths+in-Cut-1, else-v-root}

@@ -1,4 +1,4 @@
-use Rattle.mat_sets.specs.Graphs.{ends_of}
+use Rattle.mat_branch.proofs.Common.{ends_of}
 use Rattle.mat_branch.proofs.FlowTests.{AreServed}
 use Rattle.mat_branch.proofs.spare.seldom_entered.Given as goal
 

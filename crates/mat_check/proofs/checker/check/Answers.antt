@@ -1,9 +1,6 @@
-use Rattle.std.proofs.Common.{Some, sym, ap, ◌∙◌}
+use Rattle.mat_check.proofs.Common.{Some, sym, ap, ◌∙◌, IsSoundInstance-valid, answer_clauses, has_header, header_clause}
 use Rattle.mat_cert.specs.Views.{certificate_of}
 use Rattle.mat_problem.specs.Views.{instance_of}
-use Rattle.mat_problem.proofs.SoundProblems.{IsSoundInstance-valid}
-use Rattle.mat_check.specs.AnswerClauses.{answer_clauses, has_header}
-use Rattle.mat_check.specs.Clauses.{header_clause}
 use Rattle.mat_check.proofs.FailingClauses.{first_of_failing, first_of_holding}
 use Rattle.mat_check.proofs.Verdicts.{yes_where_right}
 use Rattle.mat_check.proofs.checker.check.Goals as goal

@@ -1,11 +1,4 @@
-use Rattle.std.proofs.Common.{◌≡◌, ◌++◌, length, sym, subst}
-use Rattle.std.specs.Prelude.{IfOk, slice_index}
-use Rattle.std.proofs.lemmas.Bool.{and_parts, eqb-true}
-use Rattle.mat_sets.specs.Graphs.{ends_of}
-use Rattle.mat_graphic.specs.Forests.{is_graphic}
-use Rattle.mat_fronts.specs.Once.{is_once}
-use Rattle.mat_check.specs.Clauses.{first_failure, ladder_clauses}
-use Rattle.mat_check.specs.TreeClauses.{colours_clauses}
+use Rattle.mat_check.proofs.Common.{◌≡◌, ◌++◌, length, sym, subst, IfOk, slice_index, and_parts, eqb-true, ends_of, is_graphic, is_once, first_failure, ladder_clauses, colours_clauses}
 use Rattle.mat_check.proofs.graph_answers.coloured_failure.Goals as goal
 
 pub returns : goal.returns

@@ -1,9 +1,4 @@
-use Rattle.std.proofs.Common.{◌≡◌, length, sym, subst}
-use Rattle.std.specs.Prelude.{IfOk}
-use Rattle.std.proofs.lemmas.Bool.{and_parts, eqb-true}
-use Rattle.mat_fronts.specs.Assignments.{column_at, row_at}
-use Rattle.mat_fronts.specs.Once.{is_once}
-use Rattle.mat_check.specs.Clauses.{first_failure, ladder_clauses}
+use Rattle.mat_check.proofs.Common.{◌≡◌, length, sym, subst, IfOk, and_parts, eqb-true, column_at, row_at, is_once, first_failure, ladder_clauses}
 use Rattle.mat_check.proofs.graph_answers.table_failure.Goals as goal
 
 pub returns : goal.returns

@@ -1,9 +1,4 @@
-use Rattle.std.proofs.Common.{ℕ, length, slice_get, sym, ap, subst, ◌∙◌}
-use Rattle.std.proofs.lemmas.Result.{IfOk-weaker}
-use Rattle.mat_any.specs.Trees.{is_independent}
-use Rattle.mat_any.specs.Views.{tree_of}
-use Rattle.mat_cert.specs.Certificates.{AreRangedRungs, IsRangedPlainRung, last_rung}
-use Rattle.mat_check.specs.Clauses.{first_failure, numbered_clauses, plain_rung_clauses, last_clause}
+use Rattle.mat_check.proofs.Common.{ℕ, length, slice_get, sym, ap, subst, ◌∙◌, IfOk-weaker, is_independent, tree_of, AreRangedRungs, IsRangedPlainRung, last_rung, first_failure, numbered_clauses, plain_rung_clauses, last_clause}
 use Rattle.mat_check.proofs.FailingClauses.{first_in_back, first_in_front}
 use Rattle.mat_check.proofs.ladder.best_failure.Goals as goal
 

@@ -1,10 +1,5 @@
-use Rattle.std.proofs.Common.{◌+◌, ◌==◌, [], ◌∷◌, length, sym, ap, ◌∙◌}
-use Rattle.mat_sets.specs.Sets.{minus, all_below}
+use Rattle.mat_check.proofs.Common.{◌+◌, ◌==◌, [], ◌∷◌, length, sym, ap, ◌∙◌, minus, all_below, is_independent, tree_of, last_rung, numbered_clauses, priced_rung_clauses, cut_clause}
 use Rattle.mat_laws.specs.Ranks.{rank}
-use Rattle.mat_any.specs.Trees.{is_independent}
-use Rattle.mat_any.specs.Views.{tree_of}
-use Rattle.mat_cert.specs.Certificates.{last_rung}
-use Rattle.mat_check.specs.Clauses.{numbered_clauses, priced_rung_clauses, cut_clause}
 use Rattle.mat_check.proofs.FailingClauses.{first_in_front}
 use Rattle.mat_check.proofs.JoinedClauses.{end_fails, end_holds}
 use Rattle.mat_check.proofs.ladder.ladder_failure.Goals as goal

@@ -1,11 +1,5 @@
-use Rattle.std.proofs.Common.{◌≡◌, length, sym, subst}
-use Rattle.std.specs.Prelude.{IfOk, map}
-use Rattle.std.proofs.lemmas.Bool.{and_parts, eqb-true}
-use Rattle.mat_any.specs.Trees.{is_independent}
-use Rattle.mat_any.specs.Views.{tree_of}
+use Rattle.mat_check.proofs.Common.{◌≡◌, length, sym, subst, IfOk, map, and_parts, eqb-true, is_independent, tree_of, first_failure, union_clauses}
 use Rattle.mat_problem.proofs.ListedMatroids.{all_sound, tests_of_trees}
-use Rattle.mat_check.specs.Clauses.{first_failure}
-use Rattle.mat_check.specs.SetClauses.{union_clauses}
 use Rattle.mat_check.proofs.matroid_answers.list_failure.Goals as goal
 
 pub union_failure-requires-clause-sound : goal.union_failure-requires-clause-sound

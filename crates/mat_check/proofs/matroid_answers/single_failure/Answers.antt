@@ -1,11 +1,4 @@
-use Rattle.std.proofs.Common.{◌≡◌, [], length, sym, subst, ◌∙◌}
-use Rattle.std.specs.Prelude.{IfOk}
-use Rattle.std.proofs.lemmas.Bool.{eqb-true}
-use Rattle.std.proofs.lemmas.List.Elements.{All-head}
-use Rattle.mat_any.specs.Trees.{IsSound, element_count, is_independent}
-use Rattle.mat_any.specs.Views.{tree_of}
-use Rattle.mat_check.specs.Clauses.{first_failure}
-use Rattle.mat_check.specs.SetClauses.{cover_clauses, pack_clauses}
+use Rattle.mat_check.proofs.Common.{◌≡◌, [], length, sym, subst, ◌∙◌, IfOk, eqb-true, All-head, IsSound, element_count, is_independent, tree_of, first_failure, cover_clauses, pack_clauses}
 use Rattle.mat_check.proofs.matroid_answers.single_failure.Goals as goal
 
 pub returns-in-Pack : goal.returns-in-Pack

@@ -1,6 +1,5 @@
-use Rattle.std.proofs.Common.{arith}
+use Rattle.mat_command.proofs.Common.{arith, string_bytes}
 use Rattle.std.proofs.lemmas.Bool.Decides.{nat_tests}
-use Rattle.std.specs.Prelude.{string_bytes}
 use Rattle.mat_command.proofs.NoCommands.{many_arguments, no_arguments}
 use Rattle.mat_command.proofs.command_words.command_for.Goals as goal
 use Rattle.mat_command.proofs.command_words.command_for.Goals.{in_default-via-then-arguments-lt1, in_default-via-else-arguments-lt1+else-arguments-lt2+else-arguments-lt3+else-arguments-lt4+else-arguments-lt5}

@@ -1,5 +1,4 @@
-use Rattle.std.proofs.Common.{arith}
-use Rattle.std.specs.Prelude.{string_bytes}
+use Rattle.mat_command.proofs.Common.{arith, string_bytes}
 use Rattle.mat_command.proofs.NoCommands.{no_option}
 use Rattle.mat_command.proofs.command_words.with_option.Goals as goal
 

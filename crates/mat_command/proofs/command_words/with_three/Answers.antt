@@ -1,5 +1,4 @@
-use Rattle.std.proofs.Common.{◌≡◌, rules, false, refl}
-use Rattle.std.specs.Prelude.{bytes_eq, codes}
+use Rattle.mat_command.proofs.Common.{◌≡◌, rules, false, refl, bytes_eq, codes}
 use Rattle.mat_command.proofs.command_words.with_three.Goals as goal
 
 pub returns-in_default-clause-task : goal.returns-in_default-clause-task

@@ -1,6 +1,4 @@
-use Rattle.std.proofs.Common.{map, string_bytes, arith}
-use Rattle.std.proofs.lemmas.List.{length-map}
-use Rattle.mat_words.specs.Cursors.{parts_left}
+use Rattle.mat_command.proofs.Common.{map, string_bytes, arith, length-map, parts_left}
 use Rattle.mat_command.proofs.JobReading.{first_kept}
 use Rattle.mat_command.proofs.job_list.first_words.Goals as goal
 

@@ -1,7 +1,5 @@
-use Rattle.std.proofs.Common.{◌≡◌, true, ◌++◌, map, length, string_bytes}
+use Rattle.mat_command.proofs.Common.{◌≡◌, true, ◌++◌, map, length, string_bytes, parts_left, is_word}
 use Rattle.std.specs.List.{list_all}
-use Rattle.mat_words.specs.Cursors.{parts_left}
-use Rattle.mat_words.specs.Words.{is_word}
 use Rattle.mat_command.proofs.job_list.first_words.Given as goal
 
 -- the words so far, in front of those that are left, are the words of the line

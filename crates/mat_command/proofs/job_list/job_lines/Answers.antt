@@ -1,10 +1,5 @@
 -- Each line adds a job behind those so far; a fault of a line, or one line too many, is the fault of the whole list.
-use Rattle.std.proofs.Common.{◌-◌, map, length-append, arith}
-use Rattle.std.proofs.lemmas.List.{map_push}
-use Rattle.std.proofs.lemmas.Result.{err_from_is_err_and}
-use Rattle.mat_words.specs.Cursors.{lines_left}
-use Rattle.mat_command.specs.JobLists.{most_jobs, jobs_at}
-use Rattle.mat_command.specs.Views.{job_of}
+use Rattle.mat_command.proofs.Common.{◌-◌, map, length-append, arith, map_push, err_from_is_err_and, lines_left, most_jobs, jobs_at, job_of}
 use Rattle.mat_command.proofs.JobReading.{job_read, jobs_read, reading_fails, job_refused}
 use Rattle.mat_command.proofs.job_list.job_lines.Goals as goal
 

@@ -1,7 +1,4 @@
-use Rattle.std.proofs.Common.{◌≡◌, ◌-◌, map, length}
-use Rattle.mat_words.specs.Cursors.{lines_left}
-use Rattle.mat_command.specs.JobLists.{most_jobs, jobs_at}
-use Rattle.mat_command.specs.Views.{job_of}
+use Rattle.mat_command.proofs.Common.{◌≡◌, ◌-◌, map, length, lines_left, most_jobs, jobs_at, job_of}
 use Rattle.mat_command.proofs.JobReading.{with_jobs}
 use Rattle.mat_command.proofs.job_list.job_lines.Given as goal
 

@@ -1,4 +1,4 @@
-use Rattle.mat_words.specs.Cursors.{lines_left, words_left}
+use Rattle.mat_command.proofs.Common.{lines_left, words_left}
 use Rattle.mat_command.proofs.JobReading.{line_words}
 use Rattle.mat_command.proofs.job_list.next_words.Goals as goal
 

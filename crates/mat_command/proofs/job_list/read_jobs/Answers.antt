@@ -1,7 +1,4 @@
-use Rattle.std.proofs.Common.{map}
-use Rattle.std.proofs.lemmas.Result.{err_from_is_err_and}
-use Rattle.mat_words.specs.Cursors.{lines_left}
-use Rattle.mat_command.specs.Views.{job_of}
+use Rattle.mat_command.proofs.Common.{map, err_from_is_err_and, lines_left, job_of}
 use Rattle.mat_command.proofs.JobReading.{head_fails, list_jobs, list_fails}
 use Rattle.mat_command.proofs.job_list.read_jobs.Goals as goal
 

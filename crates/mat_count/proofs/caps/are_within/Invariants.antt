@@ -1,4 +1,4 @@
-use Rattle.std.proofs.Common.{ℕ, ◌<◌, ◌≤◌, get_or}
+use Rattle.mat_count.proofs.Common.{ℕ, ◌<◌, ◌≤◌, get_or}
 use Rattle.mat_count.proofs.caps.are_within.Given as goal
 
 abbrev pub invariant-loop-i : goal.invariant-loop-i

@@ -1,4 +1,4 @@
-use Rattle.std.proofs.Common.{ap, not, sym, ◌∙◌}
+use Rattle.mat_count.proofs.Common.{ap, not, sym, ◌∙◌}
 use Rattle.mat_count.proofs.SharedMembers.{crosses-inside, crosses-shared, crosses-unshared}
 use Rattle.mat_count.proofs.crossings.bits_cross.Goals as goal
 

@@ -1,5 +1,4 @@
-use Rattle.std.proofs.Common.{◌≡◌, ℕ, ◌<◌, false, [], get_or}
-use Rattle.mat_count.specs.Laminar.{crosses}
+use Rattle.mat_count.proofs.Common.{◌≡◌, ℕ, ◌<◌, false, [], get_or, crosses}
 use Rattle.mat_count.proofs.crossings.crossing.Given as goal
 
 abbrev pub invariant-loop-i : goal.invariant-loop-i

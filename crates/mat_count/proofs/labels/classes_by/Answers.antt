@@ -1,4 +1,4 @@
-use Rattle.std.proofs.Common.{◌∙◌, get_or, length, sym}
+use Rattle.mat_count.proofs.Common.{◌∙◌, get_or, length, sym}
 use Rattle.mat_count.proofs.LabelClasses.{classes_by-none, classes_by-pushed}
 use Rattle.mat_count.proofs.labels.classes_by.Goals as goal
 

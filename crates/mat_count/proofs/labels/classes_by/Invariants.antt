@@ -1,4 +1,4 @@
-use Rattle.std.proofs.Common.{◌≡◌, length, get_or}
+use Rattle.mat_count.proofs.Common.{◌≡◌, length, get_or}
 use Rattle.mat_count.specs.Labels.{classes_by as classes}
 use Rattle.mat_count.proofs.labels.classes_by.Given as goal
 

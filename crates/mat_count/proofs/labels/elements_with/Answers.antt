@@ -1,5 +1,4 @@
-use Rattle.std.proofs.Common.{ℕ, ◌∙◌, ap, get_or, sym}
-use Rattle.mat_sets.specs.Sets.{with_one}
+use Rattle.mat_count.proofs.Common.{ℕ, ◌∙◌, ap, get_or, sym, with_one}
 use Rattle.mat_count.proofs.LabelClasses.{labelled_start, labelled_more, labelled_less}
 use Rattle.mat_count.proofs.labels.elements_with.Goals as goal
 use Rattle.mat_count.proofs.labels.elements_with.Goals.{then-labels-e+in_ok-add, else-labels-e}

@@ -1,5 +1,4 @@
-use Rattle.std.proofs.Common.{◌≡◌, get_or}
-use Rattle.mat_count.specs.Labels.{labelled}
+use Rattle.mat_count.proofs.Common.{◌≡◌, get_or, labelled}
 use Rattle.mat_count.proofs.labels.elements_with.Given as goal
 
 -- the elements with the label before place e

@@ -1,5 +1,4 @@
-use Rattle.std.proofs.Common.{arith, length}
-use Rattle.mat_sets.proofs.Sums.{AllBelow-at}
+use Rattle.mat_count.proofs.Common.{arith, length, AllBelow-at}
 use Rattle.mat_count.proofs.PlaceTables.{number-before}
 use Rattle.mat_count.proofs.laminar.count_at.Goals as goal
 

@@ -1,4 +1,4 @@
-use Rattle.std.proofs.Common.{take}
+use Rattle.mat_count.proofs.Common.{take}
 use Rattle.mat_count.proofs.PlaceTables.{AreCounted}
 use Rattle.mat_count.proofs.laminar.count_at.Given as goal
 

@@ -1,5 +1,4 @@
-use Rattle.std.proofs.Common.{take}
-use Rattle.mat_count.specs.LaminarMatroids.{IsPlaced}
+use Rattle.mat_count.proofs.Common.{take, IsPlaced}
 use Rattle.mat_count.proofs.laminar.enter.Given as goal
 
 abbrev pub invariant-loop-i : goal.invariant-loop-i

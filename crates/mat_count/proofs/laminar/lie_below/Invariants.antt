@@ -1,5 +1,4 @@
-use Rattle.std.proofs.Common.{ℕ, ◌<◌, [], get_or}
-use Rattle.mat_sets.specs.Sets.{AllBelow}
+use Rattle.mat_count.proofs.Common.{ℕ, ◌<◌, [], get_or, AllBelow}
 use Rattle.mat_count.proofs.laminar.lie_below.Given as goal
 
 abbrev pub invariant-loop-i : goal.invariant-loop-i

@@ -1,6 +1,4 @@
-use Rattle.std.proofs.Common.{◌<◌, length, sym, ap, ◌∙◌, subst, arith}
-use Rattle.mat_sets.proofs.Sums.{AllBelow-at}
-use Rattle.mat_sets.proofs.Steps.{written_back}
+use Rattle.mat_count.proofs.Common.{◌<◌, length, sym, ap, ◌∙◌, subst, arith, AllBelow-at, written_back}
 use Rattle.mat_count.proofs.PlaceTables.{AllBelow-read, CountsMembers-more, numbers-small}
 use Rattle.mat_count.proofs.laminar.members_by_set.Goals as goal
 

@@ -1,5 +1,4 @@
-use Rattle.std.proofs.Common.{take}
-use Rattle.mat_count.specs.Partitions.{CountsMembers}
+use Rattle.mat_count.proofs.Common.{take, CountsMembers}
 use Rattle.mat_count.proofs.laminar.members_by_set.Given as goal
 
 abbrev pub invariant-loop-i : goal.invariant-loop-i

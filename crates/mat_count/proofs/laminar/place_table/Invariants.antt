@@ -1,5 +1,4 @@
-use Rattle.std.proofs.Common.{take}
-use Rattle.mat_count.specs.LaminarMatroids.{IsPlaceTable}
+use Rattle.mat_count.proofs.Common.{take, IsPlaceTable}
 use Rattle.mat_count.proofs.laminar.place_table.Given as goal
 
 abbrev pub invariant-loop-place : goal.invariant-loop-place

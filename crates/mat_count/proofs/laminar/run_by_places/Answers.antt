@@ -1,11 +1,7 @@
 -- The counters hold how many elements of the set so far each listed set has. An element is added where none of the sets that hold it is full, and
 -- then these are counted up.
-use Rattle.std.proofs.Common.{◌≡◌, eqb, [], length, get_or, replicate, rules, refl, sym, ap, ◌∙◌, arith}
-use Rattle.std.proofs.lemmas.Bool.{not-false, not-true}
+use Rattle.mat_count.proofs.Common.{◌≡◌, eqb, [], length, get_or, replicate, rules, refl, sym, ap, ◌∙◌, arith, not-false, not-true, written_back, AllBelow-at, is_full}
 use Rattle.std.specs.List.{filter}
-use Rattle.mat_sets.proofs.Steps.{written_back}
-use Rattle.mat_sets.proofs.Sums.{AllBelow-at}
-use Rattle.mat_count.specs.Counters.{is_full}
 use Rattle.mat_count.proofs.CountedRuns.{IsCounting-start, IsCounting-repeated, counter-small}
 use Rattle.mat_count.proofs.LaminarRuns.{laminar_run-passed, laminar_run-entered}
 use Rattle.mat_count.proofs.PlaceTables.{AllBelow-read}

@@ -1,14 +1,6 @@
 -- None of the sets at the places so far is full; the first full one answers the question.
-use Rattle.std.proofs.Common.{◌≡◌, true, false, not, eqb, refl, sym, ap, ◌∙◌, length, get_or}
-use Rattle.std.proofs.lemmas.Bool.{and_from, both_ways, eqb-true, false_from_ne_true, le-leb, lt-leb}
-use Rattle.std.proofs.lemmas.List.{take_all}
+use Rattle.mat_count.proofs.Common.{◌≡◌, true, false, not, eqb, refl, sym, ap, ◌∙◌, length, get_or, and_from, both_ways, eqb-true, false_from_ne_true, le-leb, lt-leb, take_all, is_member, no_member, filter-passed, is_member-filter, is_member-get_or, AllBelow-at, is_full}
 use Rattle.std.specs.List.{filter}
-use Rattle.mat_sets.specs.Sets.{is_member}
-use Rattle.mat_sets.proofs.DisjointSets.{no_member}
-use Rattle.mat_sets.proofs.Filters.{filter-passed}
-use Rattle.mat_sets.proofs.Members.{is_member-filter, is_member-get_or}
-use Rattle.mat_sets.proofs.Sums.{AllBelow-at}
-use Rattle.mat_count.specs.Counters.{is_full}
 use Rattle.mat_count.proofs.laminar.some_full.Goals as goal
 
 pub bounds-numbers-i : goal.bounds-numbers-i

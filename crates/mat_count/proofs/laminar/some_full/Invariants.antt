@@ -1,6 +1,5 @@
-use Rattle.std.proofs.Common.{◌≡◌, [], take}
+use Rattle.mat_count.proofs.Common.{◌≡◌, [], take, is_full}
 use Rattle.std.specs.List.{filter}
-use Rattle.mat_count.specs.Counters.{is_full}
 use Rattle.mat_count.proofs.laminar.some_full.Given as goal
 
 abbrev pub invariant-loop-i : goal.invariant-loop-i

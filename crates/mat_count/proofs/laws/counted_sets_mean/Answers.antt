@@ -1,8 +1,4 @@
-use Rattle.std.proofs.lemmas.Bool.{and_from, and_parts}
-use Rattle.mat_sets.specs.SetTests.{is_set}
-use Rattle.mat_sets.proofs.SetTests.{IsSet-from_test, test_from-IsSet}
-use Rattle.mat_count.specs.Counts.{is_within_caps}
-use Rattle.mat_count.specs.LaminarLaws.{IsWithinCaps-from_test, test_from-IsWithinCaps}
+use Rattle.mat_count.proofs.Common.{and_from, and_parts, is_set, IsSet-from_test, test_from-IsSet, is_within_caps, IsWithinCaps-from_test, test_from-IsWithinCaps}
 use Rattle.mat_count.proofs.laws.counted_sets_mean.Goals as goal
 
 pub returns : goal.returns

@@ -1,4 +1,4 @@
-use Rattle.mat_count.specs.LaminarLaws.{Crosses-from_test, test_from-Crosses}
+use Rattle.mat_count.proofs.Common.{Crosses-from_test, test_from-Crosses}
 use Rattle.mat_count.proofs.laws.crosses_means.Goals as goal
 
 pub returns : goal.returns

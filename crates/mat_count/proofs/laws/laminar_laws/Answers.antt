@@ -1,4 +1,4 @@
-use Rattle.mat_count.specs.LaminarLaws.{counted_laws}
+use Rattle.mat_count.proofs.Common.{counted_laws}
 use Rattle.mat_count.proofs.laws.laminar_laws.Goals as goal
 
 pub returns : goal.returns

@@ -1,7 +1,4 @@
-use Rattle.std.proofs.Common.{leb, length}
-use Rattle.std.proofs.lemmas.Bool.{and_from, and_parts, leb-true, le-leb}
-use Rattle.mat_sets.specs.SetTests.{is_set}
-use Rattle.mat_sets.proofs.SetTests.{IsSet-from_test, test_from-IsSet}
+use Rattle.mat_count.proofs.Common.{leb, length, and_from, and_parts, leb-true, le-leb, is_set, IsSet-from_test, test_from-IsSet}
 use Rattle.mat_count.proofs.laws.uniform_sets_mean.Goals as goal
 
 pub returns : goal.returns

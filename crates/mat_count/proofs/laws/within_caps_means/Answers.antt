@@ -1,4 +1,4 @@
-use Rattle.mat_count.specs.LaminarLaws.{IsWithinCaps-from_test, test_from-IsWithinCaps}
+use Rattle.mat_count.proofs.Common.{IsWithinCaps-from_test, test_from-IsWithinCaps}
 use Rattle.mat_count.proofs.laws.within_caps_means.Goals as goal
 
 pub returns : goal.returns

@@ -1,5 +1,4 @@
-use Rattle.std.proofs.Common.{length, ap, ◌∙◌, arith}
-use Rattle.mat_sets.proofs.Steps.{written_back}
+use Rattle.mat_count.proofs.Common.{length, ap, ◌∙◌, arith, written_back}
 use Rattle.mat_count.proofs.ClassTables.{IsClassTable-more}
 use Rattle.mat_count.proofs.partition.class_table.Goals as goal
 

@@ -1,5 +1,4 @@
-use Rattle.std.proofs.Common.{take}
-use Rattle.mat_count.specs.Partitions.{IsClassTable}
+use Rattle.mat_count.proofs.Common.{take, IsClassTable}
 use Rattle.mat_count.proofs.partition.class_table.Given as goal
 
 abbrev pub invariant-loop-place : goal.invariant-loop-place

@@ -1,5 +1,4 @@
-use Rattle.std.proofs.Common.{take}
-use Rattle.mat_count.specs.Partitions.{IsClassEntered}
+use Rattle.mat_count.proofs.Common.{take, IsClassEntered}
 use Rattle.mat_count.proofs.partition.enter.Given as goal
 
 abbrev pub invariant-loop-i : goal.invariant-loop-i

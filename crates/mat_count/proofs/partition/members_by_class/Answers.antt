@@ -1,5 +1,4 @@
-use Rattle.std.proofs.Common.{ap, arith, length, ◌<◌}
-use Rattle.mat_sets.proofs.Sums.{AllBelow-at}
+use Rattle.mat_count.proofs.Common.{ap, arith, length, ◌<◌, AllBelow-at}
 use Rattle.mat_count.proofs.ClassTables.{CountsMembers-named, CountsMembers-free, named-inside, number-small}
 use Rattle.mat_count.proofs.partition.members_by_class.Goals as goal
 use Rattle.mat_count.proofs.partition.members_by_class.Goals.{in-Some, in_default}

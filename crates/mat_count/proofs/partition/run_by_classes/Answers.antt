@@ -1,10 +1,5 @@
 -- The counters hold how many elements of the set so far each class has; an element enters if its class is not full.
-use Rattle.std.proofs.Common.{◌≡◌, not, length, get_or, replicate, rules, refl, sym, ap, ◌∙◌, arith, None}
-use Rattle.std.proofs.lemmas.Result.{IfOk-weaker}
-use Rattle.mat_sets.proofs.Steps.{written_back}
-use Rattle.mat_sets.proofs.Sums.{AllBelow-at}
-use Rattle.mat_laws.proofs.GreedyRunSteps.{IsRunning-end}
-use Rattle.mat_count.specs.PartitionLaws.{IsLaminarFamily-from_disjoint}
+use Rattle.mat_count.proofs.Common.{◌≡◌, not, length, get_or, replicate, rules, refl, sym, ap, ◌∙◌, arith, None, IfOk-weaker, written_back, AllBelow-at, IsRunning-end, IsLaminarFamily-from_disjoint}
 use Rattle.mat_count.proofs.CountedRuns.{IsCounting-start, IsCounting-kept, counter-small}
 use Rattle.mat_count.proofs.PartitionRuns.{entry_known, partition_run-passed, partition_run-entered}
 use Rattle.mat_count.proofs.partition.run_by_classes.Goals as goal

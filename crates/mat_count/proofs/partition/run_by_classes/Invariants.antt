@@ -1,4 +1,4 @@
-use Rattle.std.proofs.Common.{length}
+use Rattle.mat_count.proofs.Common.{length}
 use Rattle.mat_count.proofs.CountedRuns.{IsCounting}
 use Rattle.mat_count.proofs.partition.run_by_classes.Given as goal
 

@@ -1,8 +1,6 @@
-use Rattle.std.proofs.Common.{subst}
+use Rattle.mat_cuts.proofs.Common.{subst, Tree, unentered_has_none}
 use Rattle.mat_cuts.specs.Pricing.{IsRightlyPriced}
-use Rattle.mat_cuts.specs.declared.cut_weight.Cuts.TheVariants.{Tree}
 use Rattle.mat_cuts.proofs.Bounds.{right_in_range}
-use Rattle.mat_sets.proofs.Crossings.{unentered_has_none}
 use Rattle.mat_cuts.proofs.cheapest_tree.cheapest.Goals as goal
 
 pub returns-in-Tree-clause-range : goal.returns-in-Tree-clause-range

@@ -1,12 +1,6 @@
 -- The least of the arcs that enter the set costs no more than any of them, so its cost can be taken from all; where it is 0, nothing is to be paid.
 use mir.Syntax.{w128}
-use Rattle.std.proofs.Common.{◌≡◌, ◌∙◌, pos, inr, subst, arith, to_z, of_z}
-use Rattle.std.proofs.lemmas.Int.{ints}
-use Rattle.std.proofs.lemmas.List.{get_or_default}
-use Rattle.mat_sets.specs.Sets.{is_member}
-use Rattle.mat_sets.proofs.Ground.{below_member}
-use Rattle.mat_cuts.specs.Costs.{cost_at}
-use Rattle.mat_cuts.specs.Listing.{IsListed}
+use Rattle.mat_cuts.proofs.Common.{◌≡◌, ◌∙◌, pos, inr, subst, arith, to_z, of_z, ints, get_or_default, is_member, below_member, cost_at, IsListed}
 use Rattle.mat_cuts.proofs.cheapest_tree.pay.Goals as goal
 
 pub index-least-requires : goal.index-least-requires

@@ -1,17 +1,7 @@
 -- Each turn of the search spends an arc that enters the last set of the path, or ends at a set that no arc enters. When
 -- no vertex is left for a path to begin at, what each arc has paid is that of the listed cuts, and the tree that grows from the root is right.
-use Rattle.std.proofs.Common.{◌≡◌, replicate, set, eqb, [], rules, length, sym, ap, subst, arith, ◌∙◌}
-use Rattle.std.proofs.lemmas.Bool.{lt-ltb}
-use Rattle.std.proofs.lemmas.Int.{ints}
-use Rattle.mat_cuts.specs.Limits.{never}
-use Rattle.mat_sets.specs.Sets.{all_below, without_one, AllBelow}
-use Rattle.mat_sets.proofs.Cardinalities.{length-without_one}
-use Rattle.mat_sets.proofs.Ground.{is_member-all_below, length-all_below, IsRising-all_below}
+use Rattle.mat_cuts.proofs.Common.{◌≡◌, replicate, set, eqb, [], rules, length, sym, ap, subst, arith, ◌∙◌, lt-ltb, ints, never, all_below, without_one, AllBelow, length-without_one, is_member-all_below, length-all_below, IsRising-all_below, those_below, IsUnentered, TellsSpent, at}
 use Rattle.mat_cuts.proofs.Loops.{places-start}
-use Rattle.mat_sets.specs.Search.{those_below}
-use Rattle.mat_sets.specs.Graphs.{IsUnentered}
-use Rattle.mat_cuts.specs.Listing.{TellsSpent}
-use Rattle.mat_cuts.specs.Raising.{at}
 use Rattle.mat_cuts.proofs.Searching.{last_set-is, IsSearching, IsSearching-start, IsSearching-begun, IsSearching-turn, IsSearching-unreached}
 use Rattle.mat_cuts.proofs.cheapest_tree.priced.Goals as goal
 

@@ -1,4 +1,4 @@
-use Rattle.std.proofs.Common.{◌*◌, ◌+◌, ◌≤◌, length}
+use Rattle.mat_cuts.proofs.Common.{◌*◌, ◌+◌, ◌≤◌, length}
 use Rattle.mat_cuts.proofs.Searching.{IsSearching}
 use Rattle.mat_cuts.proofs.cheapest_tree.priced.Given as goal
 

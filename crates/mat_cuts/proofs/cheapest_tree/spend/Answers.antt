@@ -1,9 +1,6 @@
 -- The arcs that are asked for their least cost are those that enter the last set of the path. Where there are some, a least one is spent and each
 -- of them pays; where there are none, no arc enters the set.
-use Rattle.std.proofs.Common.{◌∙◌, length, ap, subst, sym, arith}
-use Rattle.mat_sets.specs.Graphs.{ends_of}
-use Rattle.mat_sets.specs.Sets.{is_member, IsSet}
-use Rattle.mat_cuts.specs.Raising.{comes, IsLeastOf, TellsLeastOf}
+use Rattle.mat_cuts.proofs.Common.{◌∙◌, length, ap, subst, sym, arith, ends_of, is_member, IsSet, comes, IsLeastOf, TellsLeastOf}
 use Rattle.mat_cuts.proofs.Loops.{those-is, those-set, IsLeast-of, IsPaid-same}
 use Rattle.mat_cuts.proofs.cheapest_tree.spend.Goals as goal
 

@@ -1,8 +1,5 @@
 use mir.Syntax.{w128}
-use Rattle.std.proofs.Common.{◌≡◌, ◌<◌, ◌∙◌, length, pos, sym, arith, to_z, of_z}
-use Rattle.std.proofs.lemmas.Int.{ints, to_z-of_z}
-use Rattle.std.proofs.lemmas.List.{get_or_default}
-use Rattle.mat_sets.specs.Graphs.{ends_of, enters}
+use Rattle.mat_cuts.proofs.Common.{◌≡◌, ◌<◌, ◌∙◌, length, pos, sym, arith, to_z, of_z, ints, to_z-of_z, get_or_default, ends_of, enters}
 use Rattle.mat_cuts.proofs.Adding.{IsAdding-skip, IsAdding-take}
 use Rattle.mat_cuts.proofs.checking.add_at_entering.Goals as goal
 use Rattle.mat_cuts.proofs.checking.add_at_entering.Goals.{then-is_entering, else-is_entering}

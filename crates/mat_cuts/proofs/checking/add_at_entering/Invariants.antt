@@ -1,4 +1,4 @@
-use Rattle.mat_sets.specs.Graphs.{ends_of, enters}
+use Rattle.mat_cuts.proofs.Common.{ends_of, enters}
 use Rattle.mat_cuts.proofs.Adding.{IsAdding}
 use Rattle.mat_cuts.proofs.checking.add_at_entering.Given as goal
 

@@ -1,12 +1,6 @@
 -- The sets so far are cuts with weights above 0; one that holds the root, or has no weight, is no cut.
-use Rattle.std.proofs.Common.{◌<ℤ◌, pos, refl, sym, subst, arith}
-use Rattle.std.proofs.lemmas.Bool.{false≢true}
-use Rattle.std.proofs.lemmas.Int.{ints}
-use Rattle.std.proofs.lemmas.List.{take_all}
+use Rattle.mat_cuts.proofs.Common.{◌<ℤ◌, pos, refl, sym, subst, arith, false≢true, ints, take_all, IsCutInRange, IsWeightedCut, AllByRecursion-at, AllByRecursion-more}
 use Rattle.std.specs.List.{AllByRecursion}
-use Rattle.mat_cuts.specs.Answers.{IsCutInRange}
-use Rattle.mat_cuts.specs.Cuts.{IsWeightedCut}
-use Rattle.mat_sets.proofs.EachItem.{AllByRecursion-at, AllByRecursion-more}
 use Rattle.mat_cuts.proofs.checking.are_cuts.Goals as goal
 use Rattle.mat_cuts.proofs.checking.are_cuts.Goals.{then-cut-le0-via-then-cut-le0, then-cut-le0-via-else-cut-le0+then-not-is_root_free}
 

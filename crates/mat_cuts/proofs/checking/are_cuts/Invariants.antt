@@ -1,7 +1,5 @@
-use Rattle.std.proofs.Common.{ℕ, take}
+use Rattle.mat_cuts.proofs.Common.{ℕ, take, IsCutInRange, IsWeightedCut}
 use Rattle.std.specs.List.{AllByRecursion}
-use Rattle.mat_cuts.specs.Answers.{IsCutInRange}
-use Rattle.mat_cuts.specs.Cuts.{IsWeightedCut}
 use Rattle.mat_cuts.proofs.checking.are_cuts.Given as goal
 
 abbrev pub invariant-loop-cut : goal.invariant-loop-cut

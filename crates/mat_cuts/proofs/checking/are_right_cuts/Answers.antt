@@ -1,10 +1,7 @@
 -- The cuts are right if each is a cut, no arc pays more than its cost, and the weights add up to the cost of the tree.
 use mir.Syntax.{w128}
 use mir.Val.{SFits}
-use Rattle.std.proofs.Common.{◌∙◌, refl, sym, ap, arith, rules, to_z, of_z}
-use Rattle.std.proofs.lemmas.Bool.{eq-eqb, eqb-true, false≢true}
-use Rattle.std.proofs.lemmas.Int.{ints, to_z-of_z}
-use Rattle.mat_cuts.specs.Costs.{cost_at, cost_of}
+use Rattle.mat_cuts.proofs.Common.{◌∙◌, refl, sym, ap, arith, rules, to_z, of_z, eq-eqb, eqb-true, false≢true, ints, to_z-of_z, cost_at, cost_of}
 use Rattle.mat_cuts.proofs.Adding.{small_weights}
 use Rattle.mat_cuts.proofs.checking.are_right_cuts.Goals as goal
 

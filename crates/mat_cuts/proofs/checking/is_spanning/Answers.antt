@@ -1,10 +1,5 @@
 -- The reached vertices grow by one at each arc of the tree that leaves them; where none leaves them too early, the tree does not span.
-use Rattle.std.proofs.Common.{None, length, refl, subst, arith}
-use Rattle.std.proofs.lemmas.Bool.{false≢true}
-use Rattle.mat_sets.specs.Graphs.{ends_of}
-use Rattle.mat_sets.specs.Sets.{IsSet}
-use Rattle.mat_sets.proofs.Ground.{below_member}
-use Rattle.mat_cuts.specs.Growing.{IsLeaving, TellsLeaving}
+use Rattle.mat_cuts.proofs.Common.{None, length, refl, subst, arith, false≢true, ends_of, IsSet, below_member, IsLeaving, TellsLeaving}
 use Rattle.mat_cuts.proofs.Reached.{reached_spans, stuck, IsReached-first, IsReached-next}
 use Rattle.mat_cuts.proofs.checking.is_spanning.Goals as goal
 

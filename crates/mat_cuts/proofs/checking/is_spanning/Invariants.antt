@@ -1,5 +1,4 @@
-use Rattle.std.proofs.Common.{◌≡◌, length}
-use Rattle.mat_sets.specs.Graphs.{ends_of}
+use Rattle.mat_cuts.proofs.Common.{◌≡◌, length, ends_of}
 use Rattle.mat_cuts.proofs.Reached.{IsReached}
 use Rattle.mat_cuts.proofs.checking.is_spanning.Given as goal
 

@@ -1,5 +1,4 @@
-use Rattle.std.proofs.Common.{◌<◌, ◌≤ℤ◌, ℕ}
-use Rattle.mat_cuts.specs.Costs.{cost_at}
+use Rattle.mat_cuts.proofs.Common.{◌<◌, ◌≤ℤ◌, ℕ, cost_at}
 use Rattle.mat_cuts.proofs.checking.is_within.Given as goal
 
 abbrev pub invariant-loop-a : goal.invariant-loop-a

@@ -1,7 +1,4 @@
-use Rattle.std.proofs.Common.{refl, sym}
-use Rattle.mat_sets.specs.Graphs.{ends_of}
-use Rattle.mat_sets.proofs.Members.{is_member-get_or}
-use Rattle.mat_sets.proofs.Sums.{AllBelow-at}
+use Rattle.mat_cuts.proofs.Common.{refl, sym, ends_of, is_member-get_or, AllBelow-at}
 use Rattle.mat_cuts.proofs.Reached.{TellsLeaving-skip}
 use Rattle.mat_cuts.proofs.checking.leaving.Goals as goal
 

@@ -1,6 +1,4 @@
-use Rattle.std.proofs.Common.{None, take}
-use Rattle.mat_sets.specs.Graphs.{ends_of}
-use Rattle.mat_cuts.specs.Growing.{TellsLeaving}
+use Rattle.mat_cuts.proofs.Common.{None, take, ends_of, TellsLeaving}
 use Rattle.mat_cuts.proofs.checking.leaving.Given as goal
 
 abbrev pub invariant-loop-a : goal.invariant-loop-a

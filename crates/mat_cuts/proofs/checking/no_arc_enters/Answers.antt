@@ -1,6 +1,4 @@
-use Rattle.std.proofs.Common.{◌≡◌, ◌∙◌, false, refl, sym, ap, arith, below_more}
-use Rattle.std.proofs.lemmas.Bool.{both_ways, false≢true}
-use Rattle.mat_sets.specs.Graphs.{ends_of, enters}
+use Rattle.mat_cuts.proofs.Common.{◌≡◌, ◌∙◌, false, refl, sym, ap, arith, below_more, both_ways, false≢true, ends_of, enters}
 use Rattle.mat_cuts.proofs.checking.no_arc_enters.Goals as goal
 
 pub loop-a-init : goal.loop-a-init

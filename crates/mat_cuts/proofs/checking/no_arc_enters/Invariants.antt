@@ -1,5 +1,4 @@
-use Rattle.std.proofs.Common.{◌≡◌, ◌<◌, ℕ, false}
-use Rattle.mat_sets.specs.Graphs.{ends_of, enters}
+use Rattle.mat_cuts.proofs.Common.{◌≡◌, ◌<◌, ℕ, false, ends_of, enters}
 use Rattle.mat_cuts.proofs.checking.no_arc_enters.Given as goal
 
 abbrev pub invariant-loop-a : goal.invariant-loop-a

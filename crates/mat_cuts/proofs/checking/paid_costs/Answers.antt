@@ -1,15 +1,7 @@
 -- A next set adds its weight at each arc that enters it, and at no other; the sums stay small, since there are few sets.
 use mir.Syntax.{w128}
-use Rattle.std.proofs.Common.{◌≡◌, ◌∙◌, take, sym, ap, subst, arith, to_z, of_z}
-use Rattle.std.proofs.lemmas.Int.{ints}
-use Rattle.std.proofs.lemmas.List.{length-take-le}
-use Rattle.mat_sets.specs.Limits.{largest_number}
-use Rattle.mat_sets.specs.Graphs.{ends_of, enters}
-use Rattle.mat_sets.specs.Sums.{IsWithin}
-use Rattle.mat_cuts.specs.Cuts.{weight_where}
-use Rattle.mat_cuts.specs.declared.cut_weight.CutWeight.{CutWeight}
+use Rattle.mat_cuts.proofs.Common.{◌≡◌, ◌∙◌, take, sym, ap, subst, arith, to_z, of_z, ints, length-take-le, largest_number, ends_of, enters, IsWithin, weight_where, CutWeight, AllByRecursion-at, AllByRecursion-take}
 use Rattle.mat_cuts.proofs.Adding.{weight_on-more, weight_on-within}
-use Rattle.mat_sets.proofs.EachItem.{AllByRecursion-at, AllByRecursion-take}
 use Rattle.mat_cuts.proofs.checking.paid_costs.Goals as goal
 
 pub add_at_entering-requires-clause-room : goal.add_at_entering-requires-clause-room

@@ -1,7 +1,4 @@
-use Rattle.std.proofs.Common.{◌≡◌, ◌<◌, ℕ, length, take}
-use Rattle.mat_sets.specs.Graphs.{ends_of}
-use Rattle.mat_cuts.specs.Costs.{cost_at}
-use Rattle.mat_cuts.specs.Cuts.{weight_on}
+use Rattle.mat_cuts.proofs.Common.{◌≡◌, ◌<◌, ℕ, length, take, ends_of, cost_at, weight_on}
 use Rattle.mat_cuts.proofs.checking.paid_costs.Given as goal
 
 abbrev pub invariant-loop-cut : goal.invariant-loop-cut

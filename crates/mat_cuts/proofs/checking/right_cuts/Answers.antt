@@ -1,8 +1,5 @@
-use Rattle.std.proofs.Common.{◌↔◌, IfOk, IsTrue, sym, subst}
-use Rattle.mat_cuts.specs.Answers.{AreRight}
-use Rattle.mat_cuts.specs.Cuts.{AreRightCuts}
+use Rattle.mat_cuts.proofs.Common.{◌↔◌, IfOk, IsTrue, sym, subst, AreRight, AreRightCuts, IsUnentered}
 use Rattle.mat_cuts.proofs.checking.right_cuts.Goals as goal
-use Rattle.mat_sets.specs.Graphs.{IsUnentered}
 
 pub returns-in-Tree : goal.returns-in-Tree
 returns-in-Tree c =

@@ -1,8 +1,4 @@
-use Rattle.std.proofs.Common.{get_or, pos, arith}
-use Rattle.std.proofs.lemmas.Int.{ints}
-use Rattle.std.proofs.lemmas.List.Elements.{All-get_or}
-use Rattle.mat_sets.proofs.Sums.{sum_of-more, AllBelow-at}
-use Rattle.mat_cuts.specs.Costs.{cost_at, IsCost}
+use Rattle.mat_cuts.proofs.Common.{get_or, pos, arith, ints, All-get_or, sum_of-more, AllBelow-at, cost_at, IsCost}
 use Rattle.mat_cuts.proofs.checking.total_cost.Goals as goal
 
 pub bounds-costs-a : goal.bounds-costs-a

@@ -1,5 +1,4 @@
-use Rattle.std.proofs.Common.{◌≡◌, ◌*◌, ◌^◌, ◌≤ℤ◌, pos, take}
-use Rattle.mat_cuts.specs.Costs.{cost_of}
+use Rattle.mat_cuts.proofs.Common.{◌≡◌, ◌*◌, ◌^◌, ◌≤ℤ◌, pos, take, cost_of}
 use Rattle.mat_cuts.proofs.checking.total_cost.Given as goal
 
 abbrev pub invariant-loop-a : goal.invariant-loop-a

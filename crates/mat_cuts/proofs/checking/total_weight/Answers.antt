@@ -1,10 +1,5 @@
-use Rattle.std.proofs.Common.{◌≡◌, get_or, sym, ap, subst, arith}
-use Rattle.std.proofs.lemmas.Int.{ints}
-use Rattle.mat_sets.specs.Limits.{largest_number}
-use Rattle.mat_sets.specs.Sums.{IsWithin}
-use Rattle.mat_cuts.specs.declared.cut_weight.CutWeight.{CutWeight}
+use Rattle.mat_cuts.proofs.Common.{◌≡◌, get_or, sym, ap, subst, arith, ints, largest_number, IsWithin, CutWeight, AllByRecursion-at}
 use Rattle.mat_cuts.proofs.Adding.{all_weight-more}
-use Rattle.mat_sets.proofs.EachItem.{AllByRecursion-at}
 use Rattle.mat_cuts.proofs.checking.total_weight.Goals as goal
 
 pub overflow_add-total : goal.overflow_add-total

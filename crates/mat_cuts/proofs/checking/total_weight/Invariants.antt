@@ -1,6 +1,4 @@
-use Rattle.std.proofs.Common.{◌≡◌, ◌*◌, ◌^◌, take}
-use Rattle.mat_sets.specs.Sums.{IsWithin}
-use Rattle.mat_cuts.specs.Cuts.{all_weight}
+use Rattle.mat_cuts.proofs.Common.{◌≡◌, ◌*◌, ◌^◌, take, IsWithin, all_weight}
 use Rattle.mat_cuts.proofs.checking.total_weight.Given as goal
 
 abbrev pub invariant-loop-cut : goal.invariant-loop-cut

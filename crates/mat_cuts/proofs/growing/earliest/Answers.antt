@@ -1,6 +1,4 @@
-use Rattle.std.proofs.Common.{inl, inr, sym, arith}
-use Rattle.mat_sets.specs.Graphs.{ends_of}
-use Rattle.mat_sets.proofs.Sums.{AllBelow-at}
+use Rattle.mat_cuts.proofs.Common.{inl, inr, sym, arith, ends_of, AllBelow-at}
 use Rattle.mat_cuts.proofs.Loops.{IsBest-end, IsBest-skip, IsBest-take}
 use Rattle.mat_cuts.proofs.growing.earliest.Goals as goal
 use Rattle.mat_cuts.proofs.growing.earliest.Goals.{then-time-best+then-leaves, else-time-best, else-time-best-via-then-time-best+else-leaves, else-time-best-via-else-time-best}

@@ -1,5 +1,4 @@
-use Rattle.std.proofs.Common.{take}
-use Rattle.mat_sets.specs.Graphs.{ends_of}
+use Rattle.mat_cuts.proofs.Common.{take, ends_of}
 use Rattle.mat_cuts.proofs.Loops.{IsBest}
 use Rattle.mat_cuts.proofs.growing.earliest.Given as goal
 

@@ -1,11 +1,6 @@
 -- The tree always takes the earliest timed arc that leaves what is reached: there is one while a vertex is not reached, and it keeps that each
 -- listed set is entered once, from which the cost of the tree follows.
-use Rattle.std.proofs.Common.{◌∙◌, suc, length, ap, subst, arith}
-use Rattle.std.proofs.lemmas.Bool.{ltb-true}
-use Rattle.mat_cuts.specs.Limits.{never}
-use Rattle.mat_sets.specs.Graphs.{ends_of}
-use Rattle.mat_cuts.specs.Growing.{is_timed, TellsEarliest}
-use Rattle.mat_cuts.specs.Raising.{at}
+use Rattle.mat_cuts.proofs.Common.{◌∙◌, suc, length, ap, subst, arith, ltb-true, never, ends_of, is_timed, TellsEarliest, at}
 use Rattle.mat_cuts.proofs.Loops.{those-passes, those-set}
 use Rattle.mat_cuts.proofs.Trees.{some_leaves, timed-is, IsGrowing-cost, IsGrowing-first, IsGrowing-next, IsGrowing-spans}
 use Rattle.mat_cuts.proofs.growing.grow.Goals as goal

@@ -1,4 +1,4 @@
-use Rattle.std.proofs.Common.{◌≡◌, suc, length}
+use Rattle.mat_cuts.proofs.Common.{◌≡◌, suc, length}
 use Rattle.mat_cuts.proofs.Trees.{IsGrowing}
 use Rattle.mat_cuts.proofs.growing.grow.Given as goal
 

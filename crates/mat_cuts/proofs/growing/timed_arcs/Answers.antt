@@ -1,8 +1,4 @@
-use Rattle.std.proofs.Common.{◌∙◌, ◌++◌, ◌∷◌, [], sym, ap}
-use Rattle.std.proofs.lemmas.Bool.{le-ltb, lt-ltb}
-use Rattle.mat_cuts.specs.Limits.{never}
-use Rattle.mat_sets.proofs.Rounds.{those_below-none, those_below-skip}
-use Rattle.mat_cuts.specs.Growing.{is_timed}
+use Rattle.mat_cuts.proofs.Common.{◌∙◌, ◌++◌, ◌∷◌, [], sym, ap, le-ltb, lt-ltb, never, those_below-none, those_below-skip, is_timed}
 use Rattle.mat_cuts.proofs.Loops.{those_below-push}
 use Rattle.mat_cuts.proofs.growing.timed_arcs.Goals as goal
 use Rattle.mat_cuts.proofs.growing.timed_arcs.Goals.{then-since-a-lt-NEVER+in_ok-push, else-since-a-lt-NEVER}

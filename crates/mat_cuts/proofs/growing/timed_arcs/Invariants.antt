@@ -1,6 +1,4 @@
-use Rattle.std.proofs.Common.{◌≡◌}
-use Rattle.mat_sets.specs.Search.{those_below}
-use Rattle.mat_cuts.specs.Growing.{is_timed}
+use Rattle.mat_cuts.proofs.Common.{◌≡◌, those_below, is_timed}
 use Rattle.mat_cuts.proofs.growing.timed_arcs.Given as goal
 
 abbrev pub invariant-loop-a : goal.invariant-loop-a

@@ -1,8 +1,4 @@
-use Rattle.std.proofs.Common.{ap, eqb, ◌∙◌}
-use Rattle.std.proofs.lemmas.Bool.{eq-eqb, ne_eqb}
-use Rattle.mat_sets.specs.Sets.{with_one}
-use Rattle.mat_sets.proofs.Rounds.{those_below-none, those_below-put, those_below-skip}
-use Rattle.mat_cuts.specs.Raising.{at}
+use Rattle.mat_cuts.proofs.Common.{ap, eqb, ◌∙◌, eq-eqb, ne_eqb, with_one, those_below-none, those_below-put, those_below-skip, at}
 use Rattle.mat_cuts.proofs.joining.at_place.Goals as goal
 use Rattle.mat_cuts.proofs.joining.at_place.Goals.{then-place-v+in_ok-add, else-place-v}
 

@@ -1,6 +1,5 @@
 -- The vertices so far that had a later place have the place `to`, and all others have kept theirs.
-use Rattle.std.proofs.Common.{◌≡◌, ◌<◌, ◌∙◌, length, refl, inl, inr, arith, get_or}
-use Rattle.std.proofs.lemmas.Grind.{get_or_default_zero}
+use Rattle.mat_cuts.proofs.Common.{◌≡◌, ◌<◌, ◌∙◌, length, refl, inl, inr, arith, get_or, get_or_default_zero}
 use Rattle.mat_cuts.proofs.Loops.{falls-outside, falls-within, AreFalling-end, AreFalling-keep, AreFalling-set}
 use Rattle.mat_cuts.proofs.joining.join.Goals as goal
 use Rattle.mat_cuts.proofs.joining.join.Goals.{then-to-p+then-p-path, else-to-p, else-to-p-via-then-to-p+else-p-path, else-to-p-via-else-to-p}

@@ -1,4 +1,4 @@
-use Rattle.std.proofs.Common.{◌≡◌}
+use Rattle.mat_cuts.proofs.Common.{◌≡◌}
 use Rattle.mat_cuts.proofs.Loops.{AreFalling}
 use Rattle.mat_cuts.proofs.joining.join.Given as goal
 

@@ -1,8 +1,4 @@
-use Rattle.std.proofs.Common.{◌<◌, ◌∙◌, ◌++◌, ◌∷◌, [], length, inl, inr, sym, ap, arith}
-use Rattle.std.proofs.lemmas.Grind.{get_or_default_zero}
-use Rattle.mat_sets.specs.Graphs.{ends_of}
-use Rattle.mat_sets.proofs.Rounds.{those_below-none, those_below-skip}
-use Rattle.mat_cuts.specs.Raising.{comes}
+use Rattle.mat_cuts.proofs.Common.{◌<◌, ◌∙◌, ◌++◌, ◌∷◌, [], length, inl, inr, sym, ap, arith, get_or_default_zero, ends_of, those_below-none, those_below-skip, comes}
 use Rattle.mat_cuts.proofs.Loops.{comes-no, comes-yes, those_below-push}
 use Rattle.mat_cuts.proofs.lowering.arcs_coming.Goals as goal
 use Rattle.mat_cuts.proofs.lowering.arcs_coming.Goals.{then-index-path+then-index-path-2+in_ok-push, else-index-path, else-index-path-via-then-index-path+else-index-path-2, else-index-path-via-else-index-path}

@@ -1,7 +1,4 @@
-use Rattle.std.proofs.Common.{◌≡◌}
-use Rattle.mat_sets.specs.Graphs.{ends_of}
-use Rattle.mat_sets.specs.Search.{those_below}
-use Rattle.mat_cuts.specs.Raising.{comes}
+use Rattle.mat_cuts.proofs.Common.{◌≡◌, ends_of, those_below, comes}
 use Rattle.mat_cuts.proofs.lowering.arcs_coming.Given as goal
 
 abbrev pub invariant-loop-a : goal.invariant-loop-a

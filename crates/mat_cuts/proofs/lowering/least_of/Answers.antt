@@ -1,7 +1,4 @@
-use Rattle.std.proofs.Common.{◌+◌, sym, subst, arith}
-use Rattle.std.proofs.lemmas.Int.{ints}
-use Rattle.mat_sets.proofs.Ground.{below_member}
-use Rattle.mat_sets.proofs.Sums.{AllBelow-at}
+use Rattle.mat_cuts.proofs.Common.{◌+◌, sym, subst, arith, ints, below_member, AllBelow-at}
 use Rattle.mat_cuts.proofs.Loops.{IsLeastSoFar, IsLeastSoFar-better, IsLeastSoFar-end, IsLeastSoFar-keep}
 use Rattle.mat_cuts.proofs.lowering.least_of.Goals as goal
 use Rattle.mat_cuts.proofs.lowering.least_of.Goals.{then-reduced-a, else-reduced-a}

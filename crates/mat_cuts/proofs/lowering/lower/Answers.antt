@@ -1,13 +1,7 @@
 -- No arc is lowered twice, so what is left at the next one is still its whole cost, and at least what is taken; after the last one exactly the
 -- listed arcs are lowered.
 use mir.Syntax.{w128}
-use Rattle.std.proofs.Common.{◌≡◌, ◌<◌, ◌∙◌, length, get_or, take, pos, ap, subst, inl, inr, refl, arith, to_z, of_z}
-use Rattle.std.proofs.lemmas.Int.{ints, to_z-of_z}
-use Rattle.std.proofs.lemmas.List.{get_or_default, take_all}
-use Rattle.mat_sets.specs.Sets.{is_member}
-use Rattle.mat_sets.proofs.Members.{is_member-get_or}
-use Rattle.mat_sets.proofs.Sums.{AllBelow-at}
-use Rattle.mat_cuts.specs.Raising.{IsLowered}
+use Rattle.mat_cuts.proofs.Common.{◌≡◌, ◌<◌, ◌∙◌, length, get_or, take, pos, ap, subst, inl, inr, refl, arith, to_z, of_z, ints, to_z-of_z, get_or_default, take_all, is_member, is_member-get_or, AllBelow-at, IsLowered}
 use Rattle.mat_cuts.proofs.Loops.{IsLowered-more, IsLowered-next, IsLowered-same}
 use Rattle.mat_cuts.proofs.lowering.lower.Goals as goal
 use Rattle.mat_cuts.proofs.lowering.lower.Goals.{then-left-eq0, else-left-eq0}

@@ -1,6 +1,4 @@
-use Rattle.std.proofs.Common.{length, take}
-use Rattle.mat_sets.specs.Sets.{is_member}
-use Rattle.mat_cuts.specs.Raising.{IsLowered}
+use Rattle.mat_cuts.proofs.Common.{length, take, is_member, IsLowered}
 use Rattle.mat_cuts.proofs.lowering.lower.Given as goal
 
 abbrev pub invariant-loop-a : goal.invariant-loop-a

@@ -1,5 +1,4 @@
-use Rattle.std.proofs.Common.{ℕ, ◌<◌, ◌^◌, subst, sym}
-use Rattle.mat_problem.specs.Views.{instance_of}
+use Rattle.mat_desc.proofs.Common.{ℕ, ◌<◌, ◌^◌, subst, sym, instance_of}
 use Rattle.mat_desc.proofs.NamedCounts.{few_elements, few_vertices}
 use Rattle.mat_desc.proofs.named.all_numbered_names.Goals as goal
 

@@ -1,4 +1,4 @@
-use Rattle.mat_desc.specs.Views.{written_instance}
+use Rattle.mat_desc.proofs.Common.{written_instance}
 use Rattle.mat_desc.proofs.ProblemLaws.{written_valid}
 use Rattle.mat_desc.proofs.named.named_problem.Goals as goal
 

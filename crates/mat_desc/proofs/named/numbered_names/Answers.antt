@@ -1,8 +1,4 @@
-use Rattle.std.proofs.Common.{◌≡◌, ◌<◌, true, List, ℕ, [], ◌∷◌, ◌++◌, length, pos, sym, ap, subst, ◌∙◌, rules, arith}
-use Rattle.mat_sets.proofs.Ground.{map-all_below_none}
-use Rattle.mat_words.specs.Names.{is_name, with_name}
-use Rattle.mat_words.specs.Numbers.{numeral}
-use Rattle.mat_desc.specs.Notations.{numbered}
+use Rattle.mat_desc.proofs.Common.{◌≡◌, ◌<◌, true, List, ℕ, [], ◌∷◌, ◌++◌, length, pos, sym, ap, subst, ◌∙◌, rules, arith, map-all_below_none, is_name, with_name, numeral, numbered}
 use Rattle.mat_desc.proofs.NextNumberedName.{next-numbered}
 use Rattle.mat_desc.proofs.NumberedNames.{is_name-numbered, length-numbered}
 use Rattle.mat_desc.proofs.named.numbered_names.Goals as goal

@@ -1,6 +1,4 @@
-use Rattle.std.proofs.Common.{◌≡◌, [], ◌∷◌}
-use Rattle.mat_words.specs.NameLists.{names_of}
-use Rattle.mat_desc.specs.Notations.{numbered}
+use Rattle.mat_desc.proofs.Common.{◌≡◌, [], ◌∷◌, names_of, numbered}
 use Rattle.mat_desc.proofs.named.numbered_names.Given as goal
 
 -- the names so far

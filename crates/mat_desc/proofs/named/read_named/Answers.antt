@@ -1,4 +1,4 @@
-use Rattle.mat_desc.specs.Views.{named_instance}
+use Rattle.mat_desc.proofs.Common.{named_instance}
 use Rattle.mat_desc.proofs.ProblemLaws.{named_gives_found, named_gives_only, named_gives_valid, named_gives_notated}
 use Rattle.mat_desc.proofs.named.read_named.Goals as goal
 

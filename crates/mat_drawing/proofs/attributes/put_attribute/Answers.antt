@@ -1,4 +1,4 @@
-use Rattle.std.proofs.Common.{rules}
+use Rattle.mat_drawing.proofs.Common.{rules}
 use Rattle.mat_drawing.proofs.Pieces.{attribute_added}
 use Rattle.mat_drawing.proofs.attributes.put_attribute.Goals as goal
 

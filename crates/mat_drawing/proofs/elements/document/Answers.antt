@@ -1,4 +1,4 @@
-use Rattle.std.proofs.Common.{rules, ◌∷◌, []}
+use Rattle.mat_drawing.proofs.Common.{rules, ◌∷◌, []}
 use Rattle.std.specs.Result.{is_ok}
 use Rattle.mat_drawing.proofs.Pieces.{added_markup, line_feed_markup, lines_markup}
 use Rattle.mat_drawing.proofs.elements.document.Goals as goal

@@ -1,4 +1,4 @@
-use Rattle.std.proofs.Common.{rules}
+use Rattle.mat_drawing.proofs.Common.{rules}
 use Rattle.mat_drawing.proofs.Pieces.{element_markup, element_spelled}
 use Rattle.mat_drawing.proofs.elements.element.Goals as goal
 

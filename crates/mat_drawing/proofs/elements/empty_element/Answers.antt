@@ -1,4 +1,4 @@
-use Rattle.std.proofs.Common.{rules}
+use Rattle.mat_drawing.proofs.Common.{rules}
 use Rattle.mat_drawing.proofs.Pieces.{empty_element_markup}
 use Rattle.mat_drawing.proofs.elements.empty_element.Goals as goal
 

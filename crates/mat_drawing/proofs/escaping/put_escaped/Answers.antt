@@ -1,5 +1,4 @@
-use Rattle.std.proofs.Common.{arith}
-use Rattle.std.proofs.lemmas.Grind.{common_steps}
+use Rattle.mat_drawing.proofs.Common.{arith, common_steps}
 use Rattle.mat_drawing.proofs.Pieces.{escaped_printed}
 use Rattle.mat_drawing.proofs.escaping.put_escaped.Goals as goal
 

@@ -1,8 +1,6 @@
 -- The bytes so far are appended with their entities.
-use Rattle.std.proofs.Common.{◌≡◌, ◌++◌, take}
+use Rattle.mat_drawing.proofs.Common.{◌≡◌, ◌++◌, take, entity, printed}
 use Rattle.std.specs.List.{flat_map}
-use Rattle.mat_drawing.specs.Escaping.{entity}
-use Rattle.mat_drawing.specs.Names.{printed}
 use Rattle.mat_drawing.proofs.escaping.put_escaped.Given as goal
 
 abbrev pub invariant-loop-b : goal.invariant-loop-b

@@ -1,4 +1,4 @@
-use Rattle.std.proofs.Common.{rules}
+use Rattle.mat_drawing.proofs.Common.{rules}
 use Rattle.mat_drawing.proofs.Pieces.{words_markup}
 use Rattle.mat_drawing.proofs.escaping.words_of.Goals as goal
 

@@ -1,6 +1,5 @@
 -- Of no points there is no path.
-use Rattle.std.proofs.Common.{◌≡◌, length}
-use Rattle.std.specs.Prelude.{string_len}
+use Rattle.mat_drawing.proofs.Common.{◌≡◌, length, string_len}
 use Rattle.mat_drawing.proofs.paths.polyline.Given as goal
 
 abbrev pub invariant-loop-i : goal.invariant-loop-i

@@ -1,6 +1,5 @@
 -- Of no strokes there is no path.
-use Rattle.std.proofs.Common.{◌≡◌}
-use Rattle.std.specs.Prelude.{string_len}
+use Rattle.mat_drawing.proofs.Common.{◌≡◌, string_len}
 use Rattle.mat_drawing.proofs.paths.strokes.Given as goal
 
 abbrev pub invariant-loop-i : goal.invariant-loop-i

@@ -1,10 +1,6 @@
-use Rattle.std.proofs.Common.{◌≤◌, ◌∙◌, sym, subst, arith}
-use Rattle.mat_sets.specs.Limits.{most_elements}
-use Rattle.mat_laws.specs.Exchanges.{rows_of}
-use Rattle.mat_exchange.specs.RowTables.{IsFilledTable, entered_to}
+use Rattle.mat_exchange.proofs.Common.{◌≤◌, ◌∙◌, sym, subst, arith, most_elements, rows_of, IsFilledTable, entered_to, on_ok_weaker}
 use Rattle.mat_exchange.proofs.RowExchanges.{length-rows_of}
 use Rattle.mat_exchange.proofs.ComputedRows.{computed-below, rows_computed}
-use Rattle.std.proofs.lemmas.Result.{on_ok_weaker}
 use Rattle.mat_exchange.proofs.exchanges.enter_by_workers.Goals as goal
 
 pub ticket_rows-requires-clause-below : goal.ticket_rows-requires-clause-below

@@ -1,6 +1,4 @@
-use Rattle.std.proofs.Common.{◌≡◌, ◌∙◌, sym, subst, arith}
-use Rattle.mat_laws.specs.Exchanges.{rows_of}
-use Rattle.mat_exchange.specs.RowTables.{IsFilledTable, entered_to}
+use Rattle.mat_exchange.proofs.Common.{◌≡◌, ◌∙◌, sym, subst, arith, rows_of, IsFilledTable, entered_to}
 use Rattle.mat_exchange.proofs.RowExchanges.{length-rows_of}
 use Rattle.mat_exchange.proofs.TableSteps.{IsFilledTable-pass}
 use Rattle.mat_exchange.proofs.exchanges.enter_in_turn.Goals as goal

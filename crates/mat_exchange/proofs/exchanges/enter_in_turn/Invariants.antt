@@ -1,5 +1,4 @@
-use Rattle.mat_laws.specs.Exchanges.{rows_of}
-use Rattle.mat_exchange.specs.RowTables.{IsFilledTable, entered_to}
+use Rattle.mat_exchange.proofs.Common.{rows_of, IsFilledTable, entered_to}
 use Rattle.mat_exchange.proofs.exchanges.enter_in_turn.Given as goal
 
 abbrev pub invariant-loop-x : goal.invariant-loop-x

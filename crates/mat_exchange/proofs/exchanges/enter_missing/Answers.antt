@@ -1,12 +1,7 @@
 -- A member of the set has no row, nor has an element that can be added; the row of any other element is that of its circuit.
-use Rattle.std.proofs.Common.{◌≡◌, ◌∙◌, refl, sym, ap, subst}
-use Rattle.std.proofs.lemmas.Bool.{cond-true}
-use Rattle.mat_sets.specs.Sets.{AllBelow, is_member}
-use Rattle.mat_laws.specs.declared.exchange.Exchange.{Exchange}
-use Rattle.mat_laws.specs.Exchanges.{row_of, rows_of}
+use Rattle.mat_exchange.proofs.Common.{◌≡◌, ◌∙◌, refl, sym, ap, subst, cond-true, AllBelow, is_member, Exchange, row_of, rows_of, on_ok_weaker}
 use Rattle.mat_exchange.proofs.RowExchanges.{circuit_row, no_circuit, row_in-rows_of, rows-below}
 use Rattle.mat_exchange.proofs.TableSteps.{IsFilledTable-skip}
-use Rattle.std.proofs.lemmas.Result.{on_ok_weaker}
 use Rattle.mat_exchange.proofs.exchanges.enter_missing.Goals as goal
 
 pub returns-then-contains : goal.returns-then-contains

@@ -1,9 +1,5 @@
 -- The missing rows are entered element by element, so the table is filled up to the element that comes next.
-use Rattle.std.proofs.Common.{◌≡◌, ◌<◌, ◌∙◌, false, [], length, sym, subst, arith}
-use Rattle.std.proofs.lemmas.List.{get_or_default}
-use Rattle.mat_sets.specs.Sets.{AllBelow}
-use Rattle.mat_laws.specs.declared.exchange.Exchange.{Exchange}
-use Rattle.mat_exchange.specs.RowTables.{IsFilledTable, entered_to}
+use Rattle.mat_exchange.proofs.Common.{◌≡◌, ◌<◌, ◌∙◌, false, [], length, sym, subst, arith, get_or_default, AllBelow, Exchange, IsFilledTable, entered_to}
 use Rattle.mat_exchange.proofs.TableSteps.{IsFilledTable-pass}
 use Rattle.mat_exchange.proofs.exchanges.enter_rows.Goals as goal
 use Rattle.mat_exchange.proofs.exchanges.enter_rows.Goals.{then-contains+in_ok-enter_row, else-contains}

@@ -1,6 +1,4 @@
-use Rattle.std.proofs.Common.{◌≡◌, List, length}
-use Rattle.mat_laws.specs.declared.exchange.Exchange.{Exchange}
-use Rattle.mat_exchange.specs.RowTables.{AgreeOn, IsFilledTable, entered_to}
+use Rattle.mat_exchange.proofs.Common.{◌≡◌, List, length, Exchange, AgreeOn, IsFilledTable, entered_to}
 use Rattle.mat_exchange.proofs.exchanges.enter_rows.Given as goal
 
 abbrev pub invariant-loop-x : goal.invariant-loop-x

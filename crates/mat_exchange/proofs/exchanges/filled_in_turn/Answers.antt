@@ -1,6 +1,4 @@
-use Rattle.std.proofs.Common.{sym, subst}
-use Rattle.mat_laws.specs.Exchanges.{rows_of}
-use Rattle.mat_exchange.specs.RowTables.{AreWhole}
+use Rattle.mat_exchange.proofs.Common.{sym, subst, rows_of, AreWhole}
 use Rattle.mat_exchange.proofs.RowExchanges.{all_filled, AreWhole-rows_of}
 use Rattle.mat_exchange.proofs.exchanges.filled_in_turn.Goals as goal
 

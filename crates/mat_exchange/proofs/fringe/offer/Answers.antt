@@ -1,8 +1,4 @@
-use Rattle.std.proofs.Common.{◌&&◌, ◌∙◌, sym, refl, eqb, ◌==◌}
-use Rattle.mat_sets.specs.Bits.{bits_of}
-use Rattle.mat_sets.specs.Sets.{is_member}
-use Rattle.mat_sets.specs.Weights.{weight_at}
-use Rattle.mat_exchange.specs.Growing.{gain_at, IsOffered}
+use Rattle.mat_exchange.proofs.Common.{◌&&◌, ◌∙◌, sym, refl, eqb, ◌==◌, bits_of, is_member, weight_at, gain_at, IsOffered}
 use Rattle.mat_exchange.proofs.Fringes.{offered_next, offered_same}
 use Rattle.mat_exchange.proofs.fringe.offer.Goals as goal
 

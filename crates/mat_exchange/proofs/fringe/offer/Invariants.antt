@@ -1,8 +1,4 @@
-use Rattle.std.proofs.Common.{◌≡◌, ◌&&◌, ◌-◌, length, ltb}
-use Rattle.mat_sets.specs.Bits.{bits_of}
-use Rattle.mat_sets.specs.Sets.{is_member}
-use Rattle.mat_sets.specs.Weights.{weight_at}
-use Rattle.mat_exchange.specs.Growing.{IsOffered, gain_at}
+use Rattle.mat_exchange.proofs.Common.{◌≡◌, ◌&&◌, ◌-◌, length, ltb, bits_of, is_member, weight_at, IsOffered, gain_at}
 use Rattle.mat_exchange.proofs.fringe.offer.Given as goal
 
 abbrev pub invariant-loop-z : goal.invariant-loop-z

@@ -1,6 +1,5 @@
-use Rattle.std.proofs.Common.{◌∙◌, sym, refl, arith}
+use Rattle.mat_exchange.proofs.Common.{◌∙◌, sym, refl, arith, length-set}
 use Rattle.std.proofs.lemmas.Grind.{common_steps}
-use Rattle.std.proofs.lemmas.List.{length-set}
 use Rattle.mat_exchange.proofs.Fringes.{offered_one_new}
 use Rattle.mat_exchange.proofs.FringeTops.{tops_offered}
 use Rattle.mat_exchange.proofs.fringe.offer_one.Goals as goal

@@ -1,8 +1,4 @@
-use Rattle.std.proofs.Common.{List, ◌<◌, sym, subst, ap, ◌∙◌}
-use Rattle.std.proofs.lemmas.List.{length-set}
-use Rattle.mat_sets.specs.Limits.{largest_number}
-use Rattle.mat_sets.specs.Weights.{◌⊕◌, weight_at, IsWeightWithin}
-use Rattle.mat_sets.specs.declared.weight.Weight.{Weight}
+use Rattle.mat_exchange.proofs.Common.{List, ◌<◌, sym, subst, ap, ◌∙◌, length-set, largest_number, ◌⊕◌, weight_at, IsWeightWithin, Weight}
 use Rattle.mat_exchange.proofs.Raising.{raised_to_here, raised_to_next, sums_fit}
 use Rattle.mat_exchange.proofs.fringe.raise_on.Goals as goal
 

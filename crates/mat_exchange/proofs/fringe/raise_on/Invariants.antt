@@ -1,5 +1,4 @@
-use Rattle.std.proofs.Common.{◌≡◌, ◌-◌, ℕ, length}
-use Rattle.mat_sets.specs.Weights.{weight_at}
+use Rattle.mat_exchange.proofs.Common.{◌≡◌, ◌-◌, ℕ, length, weight_at}
 use Rattle.mat_exchange.proofs.Raising.{raised_to}
 use Rattle.mat_exchange.proofs.fringe.raise_on.Given as goal
 

@@ -1,6 +1,6 @@
 -- The invariant gives the bounds that each step requires; the loop enters one element more each time, so that fewer are left, and ends at a
 -- sink or where no change does either.
-use Rattle.std.proofs.Common.{◌∙◌, ap, length, refl, arith}
+use Rattle.mat_exchange.proofs.Common.{◌∙◌, ap, length, refl, arith}
 use Rattle.mat_exchange.proofs.GrowthSteps.{growth_start, first_within, second_within, total_within, reached_below, other_below, gains_within}
 use Rattle.mat_exchange.proofs.GrowthSteps.{top_within, inside_within, fewer_left, reached_few, first_start, others_less}
 use Rattle.mat_exchange.proofs.EnteringSteps.{enter_below, enter_within, enter_outside, shifted_entered, entered}

@@ -1,4 +1,4 @@
-use Rattle.std.proofs.Common.{◌+◌, ◌-◌, length}
+use Rattle.mat_exchange.proofs.Common.{◌+◌, ◌-◌, length}
 use Rattle.mat_exchange.proofs.GrowthSteps.{IsGrowth}
 use Rattle.mat_exchange.proofs.growth.grow_from.Given as goal
 

@@ -1,7 +1,5 @@
 -- The source from which the weights have grown tells the greatest weight of the first matroid; without a source nothing changes.
-use Rattle.std.proofs.Common.{◌<◌, ◌∙◌, length, sym, subst}
-use Rattle.mat_sets.specs.Weights.{weight_at}
-use Rattle.mat_laws.specs.TightPaths.{exchanges_in}
+use Rattle.mat_exchange.proofs.Common.{◌<◌, ◌∙◌, length, sym, subst, weight_at, exchanges_in}
 use Rattle.mat_exchange.proofs.GrownSplits.{grown_at_sink, grown_without_source, source_at}
 use Rattle.mat_exchange.proofs.HeaviestAddable.{addable_below, heaviest_weight}
 use Rattle.mat_exchange.proofs.growth.grow_from_heaviest.Goals as goal

@@ -1,6 +1,5 @@
 -- The lists that are lent to the growth are copies of the weights, and what is written back is all of both.
-use Rattle.std.proofs.Common.{◌∙◌}
-use Rattle.mat_sets.proofs.Steps.{written_back}
+use Rattle.mat_exchange.proofs.Common.{◌∙◌, written_back}
 use Rattle.mat_exchange.proofs.GrownSplits.{grown_of_copies}
 use Rattle.mat_exchange.proofs.growth.grown_halves.Goals as goal
 

@@ -1,6 +1,5 @@
 -- Both offers, of the addable elements and by the arcs of the root, make the fringe of the root alone.
-use Rattle.std.proofs.Common.{◌∙◌, ap}
-use Rattle.mat_sets.specs.Sets.{with_one}
+use Rattle.mat_exchange.proofs.Common.{◌∙◌, ap, with_one}
 use Rattle.mat_exchange.proofs.GrowthSteps.{fringe_of_root, others_start, others_start_below}
 use Rattle.mat_exchange.proofs.growth.reach_root.Goals as goal
 

@@ -1,7 +1,4 @@
-use Rattle.std.proofs.Common.{◌&&◌, ◌-◌, length}
-use Rattle.mat_sets.specs.Sets.{is_member}
-use Rattle.mat_sets.specs.Weights.{weight_at}
-use Rattle.mat_exchange.specs.HeaviestMembers.{IsHeaviestToOrNone}
+use Rattle.mat_exchange.proofs.Common.{◌&&◌, ◌-◌, length, is_member, weight_at, IsHeaviestToOrNone}
 use Rattle.mat_exchange.proofs.heaviest_members.heaviest_common.Given as goal
 
 abbrev pub invariant-loop-x : goal.invariant-loop-x

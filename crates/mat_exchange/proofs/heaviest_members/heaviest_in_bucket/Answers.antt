@@ -1,10 +1,4 @@
-use Rattle.std.proofs.Common.{◌≡◌, ◌*◌, ◌+◌, ◌<◌, None, get_or, length, arith, rules, ◌∙◌}
-use Rattle.std.proofs.lemmas.List.{get_or_default}
-use Rattle.mat_sets.specs.Bits.{bits_of}
-use Rattle.mat_sets.specs.Weights.{weight_at}
-use Rattle.mat_sets.proofs.BitMembers.{cleared-less}
-use Rattle.mat_sets.proofs.Bits.{is_member-at}
-use Rattle.mat_exchange.specs.HeaviestMembers.{in_bucket}
+use Rattle.mat_exchange.proofs.Common.{◌≡◌, ◌*◌, ◌+◌, ◌<◌, None, get_or, length, arith, rules, ◌∙◌, get_or_default, bits_of, weight_at, cleared-less, is_member-at, in_bucket}
 use Rattle.mat_exchange.proofs.HeaviestMembers.{bucket_after, bucket_before, bucket_bit, bucket_parts, bucket_past, heaviest_to_all, heaviest_to_below}
 use Rattle.mat_exchange.proofs.WordSearches.{IsWordSearched-none, IsWordSearched-more, IsWordSearched-all, lowest_passes}
 use Rattle.mat_exchange.proofs.heaviest_members.heaviest_in_bucket.Goals as goal

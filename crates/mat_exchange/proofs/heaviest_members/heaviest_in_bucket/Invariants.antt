@@ -1,6 +1,4 @@
-use Rattle.mat_sets.specs.Bits.{bits_of}
-use Rattle.mat_sets.specs.Weights.{weight_at}
-use Rattle.mat_exchange.specs.HeaviestMembers.{in_bucket}
+use Rattle.mat_exchange.proofs.Common.{bits_of, weight_at, in_bucket}
 use Rattle.mat_exchange.proofs.WordSearches.{IsWordSearched}
 use Rattle.mat_exchange.proofs.heaviest_members.heaviest_in_bucket.Given as goal
 

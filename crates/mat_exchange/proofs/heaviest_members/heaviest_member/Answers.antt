@@ -1,9 +1,4 @@
-use Rattle.std.proofs.Common.{◌*◌, ap, sym, subst, arith, ◌∙◌}
-use Rattle.std.proofs.lemmas.Bool.{false_from_ne_true}
-use Rattle.mat_sets.specs.Sets.{is_member}
-use Rattle.mat_sets.specs.Weights.{weight_at}
-use Rattle.mat_exchange.specs.Growing.{IsHeaviestOrNone}
-use Rattle.mat_exchange.specs.HeaviestMembers.{in_bucket}
+use Rattle.mat_exchange.proofs.Common.{◌*◌, ap, sym, subst, arith, ◌∙◌, false_from_ne_true, is_member, weight_at, IsHeaviestOrNone, in_bucket}
 use Rattle.mat_exchange.proofs.HeaviestMembers.{bucket_parts, heaviest_below, heaviest_to_all, heaviest_to_below, heaviest_to_bucket}
 use Rattle.mat_exchange.proofs.heaviest_members.heaviest_member.Goals as goal
 

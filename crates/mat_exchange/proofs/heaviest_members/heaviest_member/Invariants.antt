@@ -1,7 +1,4 @@
-use Rattle.std.proofs.Common.{◌*◌}
-use Rattle.mat_sets.specs.Sets.{is_member}
-use Rattle.mat_sets.specs.Weights.{weight_at}
-use Rattle.mat_exchange.specs.HeaviestMembers.{IsHeaviestToOrNone}
+use Rattle.mat_exchange.proofs.Common.{◌*◌, is_member, weight_at, IsHeaviestToOrNone}
 use Rattle.mat_exchange.proofs.heaviest_members.heaviest_member.Given as goal
 
 abbrev pub invariant-loop-at : goal.invariant-loop-at

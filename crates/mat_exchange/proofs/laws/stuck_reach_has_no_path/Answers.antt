@@ -1,5 +1,5 @@
 use Rattle.mat_sets.proofs.Reach.{missed_goals_have_no_walk as law}
-use Rattle.mat_laws.specs.TightPaths.{is_heaviest_addable, is_tight}
+use Rattle.mat_exchange.proofs.Common.{is_heaviest_addable, is_tight}
 use Rattle.mat_exchange.proofs.laws.stuck_reach_has_no_path.Goals as goal
 
 pub returns : goal.returns

@@ -1,4 +1,4 @@
-use Rattle.std.proofs.Common.{set, sym, ap, ◌∙◌, arith}
+use Rattle.mat_exchange.proofs.Common.{set, sym, ap, ◌∙◌, arith}
 use Rattle.mat_exchange.proofs.EmptiedRows.{none_emptied, one_emptied, one_kept, all_emptied}
 use Rattle.mat_exchange.proofs.partial_table.empty_rows.Goals as goal
 use Rattle.mat_exchange.proofs.partial_table.empty_rows.Goals.{then-contains, else-contains}

@@ -1,8 +1,5 @@
-use Rattle.std.proofs.Common.{◌≡◌, ℕ, Bool, true, false, Option, None, Some, sym, ◌∙◌, arith}
+use Rattle.mat_exchange.proofs.Common.{◌≡◌, ℕ, Bool, true, false, Option, None, Some, sym, ◌∙◌, arith, false≢true, is_member, IsNextFrom}
 use Rattle.std.specs.Option.{is_some}
-use Rattle.std.proofs.lemmas.Bool.{false≢true}
-use Rattle.mat_sets.specs.Sets.{is_member}
-use Rattle.mat_sets.specs.Search.{IsNextFrom}
 use Rattle.mat_exchange.proofs.partial_table.has_member.Goals as goal
 
 none_passes : (test : ℕ → Bool) (found : Option ℕ) → IsNextFrom test 0 found → is_some found ≡ false → (x : ℕ) → test x ≡ false

@@ -1,7 +1,4 @@
-use Rattle.std.proofs.Common.{rules, length}
-use Rattle.mat_sets.specs.Weights.{weight_at}
-use Rattle.mat_laws.specs.TightPaths.{exchanges_in}
-use Rattle.mat_exchange.specs.declared.found.Found.TheVariants.{Stuck}
+use Rattle.mat_exchange.proofs.Common.{rules, length, weight_at, exchanges_in, Stuck}
 use Rattle.mat_exchange.proofs.StuckSearches.{stuck_told}
 use Rattle.mat_exchange.proofs.path_search.tight_search_with.Goals as goal
 

@@ -1,7 +1,4 @@
-use Rattle.std.proofs.Common.{length, sym, subst}
-use Rattle.mat_sets.specs.Weights.{weight_at}
-use Rattle.mat_laws.specs.TightPaths.{exchanges_in}
-use Rattle.mat_exchange.specs.SlackParts.{IsAdditionSlack, IsLeast}
+use Rattle.mat_exchange.proofs.Common.{length, sym, subst, weight_at, exchanges_in, IsAdditionSlack, IsLeast}
 use Rattle.mat_exchange.proofs.SlackParts.{least_addition}
 use Rattle.mat_exchange.proofs.slack.addition_slack.Goals as goal
 

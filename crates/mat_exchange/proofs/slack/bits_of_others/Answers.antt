@@ -1,5 +1,4 @@
-use Rattle.std.proofs.Common.{◌∙◌, ap}
-use Rattle.mat_sets.specs.Sets.{minus}
+use Rattle.mat_exchange.proofs.Common.{◌∙◌, ap, minus}
 use Rattle.mat_exchange.proofs.SlackParts.{rest_members}
 use Rattle.mat_exchange.proofs.slack.bits_of_others.Goals as goal
 

@@ -1,7 +1,4 @@
-use Rattle.std.proofs.Common.{◌≡◌, length, sym, subst, arith}
-use Rattle.mat_sets.specs.Weights.{weight_at}
-use Rattle.mat_laws.specs.TightPaths.{exchanges_in}
-use Rattle.mat_exchange.specs.SlackParts.{IsExchangeSlack, IsLeastOrNone}
+use Rattle.mat_exchange.proofs.Common.{◌≡◌, length, sym, subst, arith, weight_at, exchanges_in, IsExchangeSlack, IsLeastOrNone}
 use Rattle.mat_exchange.proofs.SlackParts.{least_exchange_next}
 use Rattle.mat_exchange.proofs.slack.exchange_slack.Goals as goal
 

@@ -1,7 +1,4 @@
-use Rattle.std.proofs.Common.{◌∙◌, sym, subst}
-use Rattle.mat_sets.specs.Weights.{weight_at}
-use Rattle.mat_laws.specs.TightPaths.{exchanges_in}
-use Rattle.mat_exchange.specs.SlackParts.{IsExchangeSlackAt, IsLeast}
+use Rattle.mat_exchange.proofs.Common.{◌∙◌, sym, subst, weight_at, exchanges_in, IsExchangeSlackAt, IsLeast}
 use Rattle.mat_exchange.proofs.SlackParts.{least_exchange_at}
 use Rattle.mat_exchange.proofs.slack.exchange_slack_at.Goals as goal
 

@@ -1,8 +1,4 @@
-use Rattle.std.proofs.Common.{length, ap, subst}
-use Rattle.mat_sets.specs.Sets.{is_member}
-use Rattle.mat_sets.specs.Weights.{weight_at}
-use Rattle.mat_laws.specs.TightPaths.{exchanges_in}
-use Rattle.mat_exchange.specs.SlackParts.{IsAdditionSlack, IsExchangeSlack, IsLeastOrNone}
+use Rattle.mat_exchange.proofs.Common.{length, ap, subst, is_member, weight_at, exchanges_in, IsAdditionSlack, IsExchangeSlack, IsLeastOrNone}
 use Rattle.mat_exchange.proofs.SlackParts.{least_of_four, reached_below}
 use Rattle.mat_exchange.proofs.slack.least_slack.Goals as goal
 

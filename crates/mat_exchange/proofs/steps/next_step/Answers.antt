@@ -1,5 +1,4 @@
-use Rattle.std.proofs.Common.{ap, ◌∙◌}
-use Rattle.mat_sets.specs.Weights.{negated, weight_at}
+use Rattle.mat_exchange.proofs.Common.{ap, ◌∙◌, negated, weight_at}
 use Rattle.mat_exchange.proofs.HeaviestMembers.{level_after, low_after, sink_not_late}
 use Rattle.mat_exchange.proofs.steps.next_step.Goals as goal
 

@@ -1,7 +1,4 @@
-use Rattle.std.proofs.Common.{◌∙◌, ◌&&◌, ap, length, subst, sym}
-use Rattle.mat_sets.specs.Weights.{is_same, weight_at}
-use Rattle.mat_laws.specs.TightPaths.{exchanges_in}
-use Rattle.mat_exchange.specs.HeaviestAddable.{IsHeaviestWeightOrNone}
+use Rattle.mat_exchange.proofs.Common.{◌∙◌, ◌&&◌, ap, length, subst, sym, is_same, weight_at, exchanges_in, IsHeaviestWeightOrNone}
 use Rattle.mat_exchange.proofs.HeaviestAddable.{is_heaviest_addable-by_weight}
 use Rattle.mat_exchange.proofs.tight_arcs.is_heaviest.Goals as goal
 

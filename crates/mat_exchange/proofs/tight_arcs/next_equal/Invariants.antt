@@ -1,7 +1,4 @@
-use Rattle.std.proofs.Common.{◌≡◌, ◌≤◌, ◌<◌, ◌&&◌, ◌-◌, ℕ, false}
-use Rattle.mat_sets.specs.Bits.{bits_of}
-use Rattle.mat_sets.specs.Sets.{is_member}
-use Rattle.mat_sets.specs.Weights.{is_same, weight_at}
+use Rattle.mat_exchange.proofs.Common.{◌≡◌, ◌≤◌, ◌<◌, ◌&&◌, ◌-◌, ℕ, false, bits_of, is_member, is_same, weight_at}
 use Rattle.mat_exchange.proofs.tight_arcs.next_equal.Given as goal
 
 abbrev pub invariant-loop-v : goal.invariant-loop-v

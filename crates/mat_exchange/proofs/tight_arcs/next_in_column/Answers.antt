@@ -1,16 +1,8 @@
 -- Where u can be exchanged for v, v can be added, or only exchanged: the first such v is the earlier of the first of both sorts. Where u
 -- outweighs each element that can be added, none of these weighs as much.
-use Rattle.std.proofs.Common.{◌≡◌, ◌&&◌, ◌||◌, ◌∙◌, ℕ, Bool, true, false, not, Option, None, Some, refl, sym, ap, arith}
-use Rattle.std.proofs.lemmas.Bool.{both_ways, false_from_ne_true}
-use Rattle.std.proofs.lemmas.Int.{ints}
-use Rattle.mat_sets.specs.Bits.{bits_of}
-use Rattle.mat_sets.specs.Sets.{is_member}
-use Rattle.mat_sets.specs.Weights.{◌≺◌, ◌≼◌, is_same, weight_at}
-use Rattle.mat_sets.specs.declared.weight.Weight.{Weight}
+use Rattle.mat_exchange.proofs.Common.{◌≡◌, ◌&&◌, ◌||◌, ◌∙◌, ℕ, Bool, true, false, not, Option, None, Some, refl, sym, ap, arith, both_ways, false_from_ne_true, ints, bits_of, is_member, ◌≺◌, ◌≼◌, is_same, weight_at, Weight, below_gives, pairs, same_gives, IsHeaviestWeightOrNone, is_above}
+use Rattle.mat_exchange.proofs.Common.{exchanges_in}
 use Rattle.mat_sets.proofs.Search.{IsNextFrom-same}
-use Rattle.mat_sets.proofs.WeightOrder.{below_gives, pairs, same_gives}
-use Rattle.mat_exchange.specs.HeaviestAddable.{IsHeaviestWeightOrNone, is_above}
-use Rattle.mat_laws.specs.TightPaths.{exchanges_in}
 use Rattle.mat_exchange.proofs.Fringes.{whole_test}
 use Rattle.mat_exchange.proofs.tight_arcs.next_in_column.Goals as goal
 

@@ -1,6 +1,4 @@
-use Rattle.std.proofs.Common.{arith}
-use Rattle.mat_sets.specs.Weights.{weight_at}
-use Rattle.mat_exchange.specs.Tops.{top_at}
+use Rattle.mat_exchange.proofs.Common.{arith, weight_at, top_at}
 use Rattle.mat_exchange.proofs.HeaviestMembers.{heaviest_to_below, heaviest_to_bucket}
 use Rattle.mat_exchange.proofs.FringeTops.{heaviest_of_all, tops_below}
 use Rattle.mat_exchange.proofs.tops.heaviest_top.Goals as goal

@@ -1,7 +1,4 @@
-use Rattle.std.proofs.Common.{sym, ap, ◌∙◌}
-use Rattle.mat_sets.specs.Sets.{is_member}
-use Rattle.mat_sets.proofs.Ground.{is_member-all_below}
-use Rattle.mat_laws.specs.Exchanges.{rows_of}
+use Rattle.mat_exchange.proofs.Common.{sym, ap, ◌∙◌, is_member, is_member-all_below, rows_of}
 use Rattle.mat_exchange.proofs.RowExchanges.{length-rows_of}
 use Rattle.mat_exchange.proofs.unfinished_table.begun.Goals as goal
 

@@ -1,5 +1,4 @@
-use Rattle.std.proofs.Common.{◌∙◌, length, subst, sym, ap}
-use Rattle.mat_sets.specs.Sets.{AllBelow, is_member}
+use Rattle.mat_exchange.proofs.Common.{◌∙◌, length, subst, sym, ap, AllBelow, is_member}
 use Rattle.mat_exchange.proofs.unfinished_table.lost_rows.Goals as goal
 
 pub unite_unaddable-requires : goal.unite_unaddable-requires

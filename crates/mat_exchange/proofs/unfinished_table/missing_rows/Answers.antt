@@ -1,7 +1,4 @@
-use Rattle.std.proofs.Common.{◌≡◌, ℕ, Bool, ◌||◌, List, ap, ◌∙◌, arith}
-use Rattle.mat_sets.specs.Sets.{is_member, union}
-use Rattle.mat_sets.proofs.Members.{set_members}
-use Rattle.mat_laws.specs.TightPaths.{exchanges_in}
+use Rattle.mat_exchange.proofs.Common.{◌≡◌, ℕ, Bool, ◌||◌, List, ap, ◌∙◌, arith, is_member, union, set_members, exchanges_in}
 use Rattle.mat_exchange.proofs.unfinished_table.missing_rows.Goals as goal
 
 all_four : (x : ℕ) (came left : List ℕ) (moved lost united adds all : Bool) → moved ≡ is_member x (union came left) → united ≡ (moved || lost)

@@ -1,12 +1,7 @@
 -- Rows whose elements and members stay are those at the next set too; all others are missing again.
-use Rattle.std.proofs.Common.{length, ap, sym, subst, ◌∙◌, arith}
-use Rattle.mat_sets.specs.Sets.{AllBelow, minus}
-use Rattle.mat_sets.proofs.Ground.{AllBelow-subset}
-use Rattle.mat_sets.proofs.Subsets.{minus-IsSubset}
-use Rattle.mat_laws.specs.Exchanges.{rows_of}
+use Rattle.mat_exchange.proofs.Common.{length, ap, sym, subst, ◌∙◌, arith, AllBelow, minus, AllBelow-subset, minus-IsSubset, rows_of, below}
 use Rattle.mat_exchange.proofs.MissingElements.{rows_reopened}
 use Rattle.mat_exchange.proofs.RowExchanges.{length-rows_of}
-use Rattle.mat_laws.proofs.Independent.{below}
 use Rattle.mat_exchange.proofs.unfinished_table.reopened.Goals as goal
 
 pub lost_rows-requires-clause-came : goal.lost_rows-requires-clause-came

@@ -1,11 +1,6 @@
 -- Each turn adds a path along a walk of the residual graph, or what the search reached is a cut of as many arcs as there are paths; at the end the
 -- table is read as the paths.
-use Rattle.std.proofs.Common.{◌∙◌, ap, length, subst, arith}
-use Rattle.mat_sets.specs.Graphs.{ends_of}
-use Rattle.mat_sets.specs.Sets.{all_below}
-use Rattle.mat_sets.proofs.Reach.{walk_differs}
-use Rattle.mat_flow.specs.declared.arc_flow.ArcAnswer.TheVariants.{Paths, Cut}
-use Rattle.mat_flow.specs.LineGraphs.{arcs_from, arcs_to, line_arcs}
+use Rattle.mat_flow.proofs.Common.{◌∙◌, ap, length, subst, arith, ends_of, all_below, walk_differs, Paths, Cut, arcs_from, arcs_to, line_arcs}
 use Rattle.mat_flow.proofs.ArcFlows.{cut_found, paths_found, HoldsPaths, HoldsPaths-own}
 use Rattle.mat_flow.proofs.Augmenting.{augmented}
 use Rattle.mat_flow.proofs.ArcPathLaws.{no_paths_told}

@@ -1,5 +1,4 @@
-use Rattle.std.proofs.Common.{length}
-use Rattle.mat_sets.specs.Graphs.{ends_of}
+use Rattle.mat_flow.proofs.Common.{length, ends_of}
 use Rattle.mat_flow.proofs.ArcFlows.{HoldsPaths}
 use Rattle.mat_flow.proofs.arc_flow.arc_paths.Given as goal
 

@@ -1,8 +1,5 @@
-use Rattle.std.proofs.Common.{◌+◌, length, arith, get_or, subst, sym, take}
-use Rattle.mat_sets.proofs.Sums.{AllBelow-at}
-use Rattle.mat_sets.specs.Graphs.{ends_of}
+use Rattle.mat_flow.proofs.Common.{◌+◌, length, arith, get_or, subst, sym, take, AllBelow-at, ends_of, AreLeaving}
 use Rattle.mat_flow.proofs.ArcFlows.{AreLeaving-more, AreLeaving-none}
-use Rattle.mat_flow.specs.LineGraphs.{AreLeaving}
 use Rattle.mat_flow.proofs.arc_flow.leaving_rows.Goals as goal
 
 pub bounds-arcs-a : goal.bounds-arcs-a

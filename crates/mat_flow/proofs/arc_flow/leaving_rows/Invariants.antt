@@ -1,6 +1,4 @@
-use Rattle.std.proofs.Common.{take}
-use Rattle.mat_sets.specs.Graphs.{ends_of}
-use Rattle.mat_flow.specs.LineGraphs.{AreLeaving}
+use Rattle.mat_flow.proofs.Common.{take, ends_of, AreLeaving}
 use Rattle.mat_flow.proofs.arc_flow.leaving_rows.Given as goal
 
 abbrev pub invariant-loop-a : goal.invariant-loop-a

@@ -1,6 +1,4 @@
-use Rattle.std.proofs.Common.{◌+◌, ◌∙◌, length, subst, sym}
-use Rattle.mat_sets.proofs.Sums.{AllBelow-at}
-use Rattle.mat_sets.specs.Graphs.{ends_of}
+use Rattle.mat_flow.proofs.Common.{◌+◌, ◌∙◌, length, subst, sym, AllBelow-at, ends_of}
 use Rattle.mat_flow.proofs.ArcFlows.{IsLeaving, IsLeaving-cut, IsLeaving-skip, IsLeaving-start}
 use Rattle.mat_flow.proofs.LinkTables.{none_from}
 use Rattle.mat_flow.proofs.arc_flow.left_out.Goals as goal

@@ -1,4 +1,4 @@
-use Rattle.mat_sets.specs.Graphs.{ends_of}
+use Rattle.mat_flow.proofs.Common.{ends_of}
 use Rattle.mat_flow.proofs.ArcFlows.{IsLeaving}
 use Rattle.mat_flow.proofs.arc_flow.left_out.Given as goal
 

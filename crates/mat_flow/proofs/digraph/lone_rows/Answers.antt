@@ -1,4 +1,4 @@
-use Rattle.std.proofs.Common.{◌≡◌, ◌+◌, arith, subst, sym}
+use Rattle.mat_flow.proofs.Common.{◌≡◌, ◌+◌, arith, subst, sym}
 use Rattle.mat_flow.proofs.Rows.{AreLone, AreLone-more, AreLone-none, AreRows-lone}
 use Rattle.mat_flow.proofs.digraph.lone_rows.Goals as goal
 

@@ -1,5 +1,4 @@
-use Rattle.std.proofs.Common.{◌+◌, subst, sym, take}
-use Rattle.mat_flow.specs.Digraphs.{AreRows}
+use Rattle.mat_flow.proofs.Common.{◌+◌, subst, sym, take, AreRows}
 use Rattle.mat_flow.proofs.Rows.{AreRows-more}
 use Rattle.mat_flow.proofs.digraph.rows_of.Goals as goal
 

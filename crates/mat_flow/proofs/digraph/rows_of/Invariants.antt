@@ -1,5 +1,4 @@
-use Rattle.std.proofs.Common.{take}
-use Rattle.mat_flow.specs.Digraphs.{AreRows}
+use Rattle.mat_flow.proofs.Common.{take, AreRows}
 use Rattle.mat_flow.proofs.digraph.rows_of.Given as goal
 
 abbrev pub invariant-loop-i : goal.invariant-loop-i

@@ -1,5 +1,4 @@
-use Rattle.std.proofs.Common.{◌≡◌, take}
-use Rattle.mat_flow.specs.Digraphs.{reversed_arcs}
+use Rattle.mat_flow.proofs.Common.{◌≡◌, take, reversed_arcs}
 use Rattle.mat_flow.proofs.digraph.turned_round.Given as goal
 
 -- the first arcs are turned round

@@ -1,6 +1,4 @@
-use Rattle.std.proofs.Common.{◌∙◌, sym, ap}
-use Rattle.mat_sets.specs.Sets.{with_one}
-use Rattle.mat_sets.proofs.Rounds.{those_below-none, those_below-put, those_below-skip}
+use Rattle.mat_flow.proofs.Common.{◌∙◌, sym, ap, with_one, those_below-none, those_below-put, those_below-skip}
 use Rattle.mat_flow.proofs.leading.goals.Goals as goal
 use Rattle.mat_flow.proofs.leading.goals.Goals.{then-is_goal+in_ok-insert, else-is_goal}
 

@@ -1,5 +1,4 @@
-use Rattle.std.specs.Prelude.{◌≡◌}
-use Rattle.mat_sets.specs.Search.{those_below}
+use Rattle.mat_flow.proofs.Common.{◌≡◌, those_below}
 use Rattle.mat_flow.proofs.leading.goals.Given as goal
 
 abbrev pub invariant-loop-v : goal.invariant-loop-v

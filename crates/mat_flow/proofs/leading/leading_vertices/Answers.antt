@@ -1,5 +1,4 @@
-use Rattle.std.proofs.Common.{subst, true, false}
-use Rattle.mat_flow.specs.Leading.{AreLedFrom}
+use Rattle.mat_flow.proofs.Common.{subst, true, false, AreLedFrom}
 use Rattle.mat_flow.proofs.LeadingVertices.{AreLeadingAfter-more, AreLeadingAfter-none, AreLeading-all, AreLeading-ended}
 use Rattle.mat_flow.proofs.leading.leading_vertices.Goals as goal
 

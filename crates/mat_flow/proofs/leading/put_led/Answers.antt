@@ -1,5 +1,4 @@
-use Rattle.std.proofs.Common.{subst, true, false}
-use Rattle.mat_flow.specs.Leading.{IsLed}
+use Rattle.mat_flow.proofs.Common.{subst, true, false, IsLed}
 use Rattle.mat_flow.proofs.LeadingVertices.{AreLedFrom-more, AreLedFrom-passed}
 use Rattle.mat_flow.proofs.leading.put_led.Goals as goal
 use Rattle.mat_flow.proofs.leading.put_led.Goals.{then-is_led+in_ok-insert, else-is_led}

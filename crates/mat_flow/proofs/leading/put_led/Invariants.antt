@@ -1,4 +1,4 @@
-use Rattle.mat_flow.specs.Leading.{AreLedFrom}
+use Rattle.mat_flow.proofs.Common.{AreLedFrom}
 use Rattle.mat_flow.proofs.leading.put_led.Given as goal
 
 abbrev pub invariant-loop-u : goal.invariant-loop-u

@@ -1,4 +1,4 @@
-use Rattle.std.proofs.Common.{◌<◌, length, get_or, arith}
+use Rattle.mat_flow.proofs.Common.{◌<◌, length, get_or, arith}
 use Rattle.mat_flow.proofs.LinkTables.{IsShifting-next, IsShifting-end}
 use Rattle.mat_flow.proofs.link_table.shift_along.Goals as goal
 

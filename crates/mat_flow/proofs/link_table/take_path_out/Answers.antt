@@ -1,6 +1,5 @@
 -- What is left of the path ends at the vertex that comes next; each step takes one link out, so fewer are left.
-use Rattle.std.proofs.Common.{◌≡◌, length, rules, vec_len, subst, sym, arith}
-use Rattle.mat_flow.specs.LinkTables.{HasPathLeft}
+use Rattle.mat_flow.proofs.Common.{◌≡◌, length, rules, vec_len, subst, sym, arith, HasPathLeft}
 use Rattle.mat_flow.proofs.LinkTables.{entry_of, none_from}
 use Rattle.mat_flow.proofs.PathsTakenOut.{end_free, end_inside, others_fewer, HasPathLeft-less, HasPathLeft-none}
 use Rattle.mat_flow.proofs.link_table.take_path_out.Goals as goal

@@ -1,5 +1,4 @@
-use Rattle.std.proofs.Common.{ℕ, List, Some}
-use Rattle.mat_flow.specs.LinkTables.{HasPathLeft}
+use Rattle.mat_flow.proofs.Common.{ℕ, List, Some, HasPathLeft}
 use Rattle.mat_flow.proofs.PathsTakenOut.{others_in}
 use Rattle.mat_flow.proofs.link_table.take_path_out.Given as goal
 

@@ -1,6 +1,4 @@
-use Rattle.std.proofs.Common.{arith, subst}
-use Rattle.mat_sets.proofs.Reach.{walk_differs}
-use Rattle.mat_flow.specs.LinkTables.{IsLinkTable}
+use Rattle.mat_flow.proofs.Common.{arith, subst, walk_differs, IsLinkTable}
 use Rattle.mat_flow.proofs.Augmenting.{augmented}
 use Rattle.mat_flow.proofs.LinkTables.{IsLinkTable-own, starts_in-most}
 use Rattle.mat_flow.proofs.linking.linked.Goals as goal

@@ -1,5 +1,4 @@
-use Rattle.std.proofs.Common.{◌-◌, length}
-use Rattle.mat_flow.specs.LinkTables.{starts_in, IsLinkTable}
+use Rattle.mat_flow.proofs.Common.{◌-◌, length, starts_in, IsLinkTable}
 use Rattle.mat_flow.proofs.linking.linked.Given as goal
 
 abbrev pub invariant-loop-before : goal.invariant-loop-before

@@ -1,6 +1,4 @@
-use Rattle.std.proofs.Common.{◌∙◌, subst, sym}
-use Rattle.mat_sets.proofs.Ground.{below_member}
-use Rattle.mat_flow.specs.Trails.{AreTrails}
+use Rattle.mat_flow.proofs.Common.{◌∙◌, subst, sym, below_member, AreTrails}
 use Rattle.mat_flow.proofs.DisjointPaths.{AreDisjointPaths-trails}
 use Rattle.mat_flow.proofs.Separators.{IsSeparator-frontier, before_reached}
 use Rattle.mat_flow.proofs.linking.linking_of.Goals as goal

@@ -1,5 +1,4 @@
-use Rattle.std.proofs.Common.{◌≡◌, ◌||◌, ℕ, take}
-use Rattle.mat_sets.specs.Sets.{is_member}
+use Rattle.mat_flow.proofs.Common.{◌≡◌, ◌||◌, ℕ, take, is_member}
 use Rattle.mat_flow.proofs.seeking.put_back.Given as goal
 
 -- the first of the vertices are put back

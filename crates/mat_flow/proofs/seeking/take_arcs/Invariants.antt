@@ -1,4 +1,4 @@
-use Rattle.std.proofs.Common.{◌-◌}
+use Rattle.mat_flow.proofs.Common.{◌-◌}
 use Rattle.mat_flow.proofs.FirstGoals.{IsTaking}
 use Rattle.mat_flow.proofs.seeking.take_arcs.Given as goal
 

@@ -1,4 +1,4 @@
-use Rattle.std.proofs.Common.{◌≡◌, ◌∙◌, length, rules, sym, vec_len}
+use Rattle.mat_flow.proofs.Common.{◌≡◌, ◌∙◌, length, rules, sym, vec_len}
 use Rattle.mat_flow.proofs.FirstGoals.{followed_more, goal_taken, IsTaking-more}
 use Rattle.mat_flow.proofs.seeking.take_starts.Goals as goal
 

@@ -1,5 +1,5 @@
 -- Each step goes from a vertex to the one before it, which the search found earlier; so the steps end, at a start.
-use Rattle.std.proofs.Common.{◌≡◌, ◌∷◌, [], rules, arith}
+use Rattle.mat_flow.proofs.Common.{◌≡◌, ◌∷◌, [], rules, arith}
 use Rattle.mat_flow.proofs.FirstGoals.{at_inside, back_done, back_few, back_on, IsBack-one}
 use Rattle.mat_flow.proofs.seeking.trace_back.Goals as goal
 

@@ -1,6 +1,4 @@
-use Rattle.std.proofs.Common.{◌≡◌, ◌-◌, ℕ, Bool, List, true, length}
-use Rattle.mat_sets.specs.Sets.{is_member}
-use Rattle.mat_flow.specs.Seeking.{IsChain}
+use Rattle.mat_flow.proofs.Common.{◌≡◌, ◌-◌, ℕ, Bool, List, true, length, is_member, IsChain}
 use Rattle.mat_flow.proofs.FirstGoals.{IsBack}
 use Rattle.mat_flow.proofs.seeking.trace_back.Given as goal
 

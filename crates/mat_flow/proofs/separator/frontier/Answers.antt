@@ -1,7 +1,4 @@
-use Rattle.std.proofs.Common.{◌+◌, ◌<◌, ◌∙◌, length, get_or, refl, subst, sym, ap}
-use Rattle.mat_sets.proofs.Members.{is_member-get_or}
-use Rattle.mat_sets.proofs.Sums.{AllBelow-at}
-use Rattle.mat_flow.specs.LinkTables.{entry_at}
+use Rattle.mat_flow.proofs.Common.{◌+◌, ◌<◌, ◌∙◌, length, get_or, refl, subst, sym, ap, is_member-get_or, AllBelow-at, entry_at}
 use Rattle.mat_flow.proofs.LinkTables.{none_from}
 use Rattle.mat_flow.proofs.Frontiers.{IsCutting, IsCutting-cut, IsCutting-skip}
 use Rattle.mat_flow.proofs.separator.frontier.Goals as goal

@@ -1,4 +1,4 @@
-use Rattle.std.proofs.Common.{◌+◌, ◌<◌, Vec, Global, ℕ, Option, length, subst, sym, arith}
+use Rattle.mat_flow.proofs.Common.{◌+◌, ◌<◌, Vec, Global, ℕ, Option, length, subst, sym, arith}
 use Rattle.mat_flow.proofs.LinkTables.{none_from}
 use Rattle.mat_flow.proofs.TrailReading.{IsReversing, IsReversing-put, IsReversing-skip}
 use Rattle.mat_flow.proofs.trails.after_table.Goals as goal

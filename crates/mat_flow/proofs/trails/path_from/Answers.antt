@@ -1,5 +1,4 @@
-use Rattle.std.proofs.Common.{arith}
-use Rattle.std.proofs.lemmas.List.{length_push}
+use Rattle.mat_flow.proofs.Common.{arith, length_push}
 use Rattle.mat_flow.proofs.TrailReading.{IsReading-next, at_below, length-reading}
 use Rattle.mat_flow.proofs.trails.path_from.Goals as goal
 

@@ -1,4 +1,4 @@
-use Rattle.std.proofs.Common.{◌-◌, length}
+use Rattle.mat_flow.proofs.Common.{◌-◌, length}
 use Rattle.mat_flow.proofs.TrailReading.{IsReading}
 use Rattle.mat_flow.proofs.trails.path_from.Given as goal
 

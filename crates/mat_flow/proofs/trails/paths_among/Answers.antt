@@ -1,9 +1,6 @@
 -- A vertex without one before it begins a path, which is listed; the others are passed over.
-use Rattle.std.proofs.Common.{◌+◌, ◌∙◌, List, ℕ, Vec, Global, length, get_or, take, subst, sym, arith}
-use Rattle.mat_sets.proofs.Sums.{AllBelow-at}
+use Rattle.mat_flow.proofs.Common.{◌+◌, ◌∙◌, List, ℕ, Vec, Global, length, get_or, take, subst, sym, arith, AllBelow-at, entry_at, AreTrails}
 use Rattle.mat_flow.proofs.LinkTables.{entry_inside, some_is_one}
-use Rattle.mat_flow.specs.LinkTables.{entry_at}
-use Rattle.mat_flow.specs.Trails.{AreTrails}
 use Rattle.mat_flow.proofs.DisjointPaths.{AreTrails-push, AreTrails-skip, none_of}
 use Rattle.mat_flow.proofs.trails.paths_among.Goals as goal
 use Rattle.mat_flow.proofs.trails.paths_among.Goals.{then-is_none+in_ok-path_from+in_ok-push, else-is_none}

@@ -1,5 +1,4 @@
-use Rattle.std.proofs.Common.{take}
-use Rattle.mat_flow.specs.Trails.{AreTrails}
+use Rattle.mat_flow.proofs.Common.{take, AreTrails}
 use Rattle.mat_flow.proofs.trails.paths_among.Given as goal
 
 abbrev pub invariant-loop-v : goal.invariant-loop-v

@@ -1,4 +1,4 @@
-use Rattle.std.proofs.Common.{◌∙◌}
+use Rattle.mat_fronts.proofs.Common.{◌∙◌}
 use Rattle.std.proofs.lemmas.Result.{IfOk-weaker}
 use Rattle.mat_fronts.proofs.Ladders.{assignment_made}
 use Rattle.mat_fronts.proofs.assignment.assign.Goals as goal

@@ -1,5 +1,4 @@
-use Rattle.std.proofs.Common.{ℕ, sym, ap, not, get_or, ◌∙◌}
-use Rattle.mat_sets.specs.Sets.{is_member, with_one}
+use Rattle.mat_fronts.proofs.Common.{ℕ, sym, ap, not, get_or, ◌∙◌, is_member, with_one}
 use Rattle.mat_sets.proofs.Rounds.{those_below-none, those_below-put, those_below-skip}
 use Rattle.mat_fronts.proofs.colours.edges_without.Goals as goal
 use Rattle.mat_fronts.proofs.colours.edges_without.Goals.{then-not-contains+in_ok-add, else-not-contains}

@@ -1,6 +1,5 @@
-use Rattle.std.proofs.Common.{◌≡◌, not, get_or}
+use Rattle.mat_fronts.proofs.Common.{◌≡◌, not, get_or, is_member}
 use Rattle.mat_sets.specs.Search.{those_below}
-use Rattle.mat_sets.specs.Sets.{is_member}
 use Rattle.mat_fronts.proofs.colours.edges_without.Given as goal
 
 -- the edges of other colours before edge e

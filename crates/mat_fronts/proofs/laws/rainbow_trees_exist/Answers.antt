@@ -1,8 +1,4 @@
-use Rattle.std.proofs.Common.{◌+◌, length, get_or, inl, inr, arith}
-use Rattle.std.proofs.lemmas.Bool.{cases_lt}
-use Rattle.mat_sets.specs.Graphs.{ends_of}
-use Rattle.mat_graphic.specs.Forests.{number_of_components}
-use Rattle.mat_fronts.specs.Rainbow.{edges_without}
+use Rattle.mat_fronts.proofs.Common.{◌+◌, length, get_or, inl, inr, arith, cases_lt, ends_of, number_of_components, edges_without}
 use Rattle.mat_fronts.proofs.Ladders.{missing_colours_exclude, tree_or_missing}
 use Rattle.mat_fronts.proofs.laws.rainbow_trees_exist.Goals as goal
 

@@ -1,7 +1,5 @@
-use Rattle.std.proofs.Common.{◌+◌, ℕ, List, length, get_or, take, subst, sym}
-use Rattle.mat_sets.specs.Sets.{AllBelow}
+use Rattle.mat_fronts.proofs.Common.{◌+◌, ℕ, List, length, get_or, take, subst, sym, AllBelow, AreLabelsOf}
 use Rattle.mat_sets.proofs.Sums.{AllBelow-at}
-use Rattle.mat_fronts.specs.Once.{AreLabelsOf}
 use Rattle.mat_fronts.proofs.OnceEach.{labels_more}
 use Rattle.mat_fronts.proofs.rainbow_search.colours_on.Goals as goal
 

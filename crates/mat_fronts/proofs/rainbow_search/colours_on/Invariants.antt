@@ -1,6 +1,4 @@
-use Rattle.std.proofs.Common.{take, get_or}
-use Rattle.mat_sets.specs.Sets.{IsRising}
-use Rattle.mat_fronts.specs.Once.{AreLabelsOf}
+use Rattle.mat_fronts.proofs.Common.{take, get_or, IsRising, AreLabelsOf}
 use Rattle.mat_fronts.proofs.rainbow_search.colours_on.Given as goal
 
 -- the colours of the edges before this place

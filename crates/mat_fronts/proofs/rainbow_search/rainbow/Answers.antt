@@ -1,5 +1,4 @@
-use Rattle.std.proofs.Common.{◌∙◌, ◌-◌, ℕ, ap, length, subst, sym, arith}
-use Rattle.mat_sets.specs.Sets.{AllBelow}
+use Rattle.mat_fronts.proofs.Common.{◌∙◌, ◌-◌, ℕ, ap, length, subst, sym, arith, AllBelow}
 use Rattle.mat_graphic.specs.declared.graphic.Graphic.{Graphic}
 use Rattle.mat_fronts.proofs.Ladders.{rainbow_made, missing_of_ladder}
 use Rattle.mat_fronts.proofs.rainbow_search.rainbow.Goals as goal

@@ -1,5 +1,4 @@
-use Rattle.std.proofs.Common.{◌+◌, ◌*◌, ◌∙◌, ap, arith}
-use Rattle.mat_gen.specs.Draws.{state_after, draw}
+use Rattle.mat_gen.proofs.Common.{◌+◌, ◌*◌, ◌∙◌, ap, arith, state_after, draw}
 use Rattle.mat_gen.proofs.Draws.{draw_made, drawn_more, drawn_none, state_next}
 use Rattle.mat_gen.proofs.generator.numbers.Goals as goal
 

@@ -1,6 +1,4 @@
-use Rattle.std.proofs.Common.{◌≡◌, ◌<◌, ◌+◌, ◌*◌}
-use Rattle.mat_gen.specs.Draws.{state_after}
-use Rattle.mat_gen.specs.Samples.{numbers_drawn}
+use Rattle.mat_gen.proofs.Common.{◌≡◌, ◌<◌, ◌+◌, ◌*◌, state_after, numbers_drawn}
 use Rattle.mat_gen.proofs.generator.numbers.Given as goal
 
 -- the state before the next element's draw, and the numbers of the elements so far

@@ -1,5 +1,4 @@
-use Rattle.std.proofs.Common.{◌≡◌, ◌+◌, ◌*◌, ◌<◌, ◌∙◌, ap, arith}
-use Rattle.mat_gen.specs.Samples.{pair_drawn, pairs_drawn}
+use Rattle.mat_gen.proofs.Common.{◌≡◌, ◌+◌, ◌*◌, ◌<◌, ◌∙◌, ap, arith, pair_drawn, pairs_drawn}
 use Rattle.mat_gen.proofs.Draws.{drawn_more, drawn_none, number_read, numbers_long, pair_made}
 use Rattle.mat_gen.proofs.generator.pairs.Goals as goal
 

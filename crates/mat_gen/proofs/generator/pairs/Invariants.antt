@@ -1,5 +1,4 @@
-use Rattle.std.proofs.Common.{◌≡◌}
-use Rattle.mat_gen.specs.Samples.{pairs_drawn}
+use Rattle.mat_gen.proofs.Common.{◌≡◌, pairs_drawn}
 use Rattle.mat_gen.proofs.generator.pairs.Given as goal
 
 abbrev pub invariant-loop-i : goal.invariant-loop-i

@@ -1,4 +1,4 @@
-use Rattle.std.proofs.Common.{arith}
+use Rattle.mat_gen.proofs.Common.{arith}
 use Rattle.std.proofs.Math.Nat.{mod-lt}
 use Rattle.mat_gen.proofs.Draws.{state_after-none, state_after-one}
 use Rattle.mat_gen.proofs.generator.state_behind.Goals as goal

@@ -1,5 +1,4 @@
-use Rattle.std.proofs.Common.{◌≡◌, ◌<◌}
-use Rattle.mat_gen.specs.Draws.{state_after}
+use Rattle.mat_gen.proofs.Common.{◌≡◌, ◌<◌, state_after}
 use Rattle.mat_gen.proofs.generator.state_behind.Given as goal
 
 abbrev pub invariant-loop : goal.invariant-loop

@@ -1,5 +1,4 @@
-use Rattle.std.proofs.Common.{◌≡◌, ◌+◌, ◌*◌, ◌<◌, ◌∙◌, ap, arith}
-use Rattle.mat_gen.specs.Samples.{weight_from, weights_from}
+use Rattle.mat_gen.proofs.Common.{◌≡◌, ◌+◌, ◌*◌, ◌<◌, ◌∙◌, ap, arith, weight_from, weights_from}
 use Rattle.mat_gen.proofs.Draws.{drawn_more, drawn_none, number_read, numbers_long, weight_made}
 use Rattle.mat_gen.proofs.generator.weights.Goals as goal
 

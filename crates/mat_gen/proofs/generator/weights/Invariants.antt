@@ -1,5 +1,4 @@
-use Rattle.std.proofs.Common.{◌≡◌}
-use Rattle.mat_gen.specs.Samples.{weights_from}
+use Rattle.mat_gen.proofs.Common.{◌≡◌, weights_from}
 use Rattle.mat_gen.proofs.generator.weights.Given as goal
 
 abbrev pub invariant-loop-i : goal.invariant-loop-i

@@ -1,4 +1,4 @@
-use Rattle.std.proofs.Common.{◌+◌, ◌/◌, arith}
+use Rattle.mat_gen.proofs.Common.{◌+◌, ◌/◌, arith}
 use Rattle.mat_gen.proofs.Validity.{graph_drawn}
 use Rattle.mat_gen.proofs.samples.list_sample.Goals as goal
 

@@ -1,4 +1,4 @@
-use Rattle.std.proofs.Common.{◌+◌, ◌/◌, ◌∙◌, arith, rules}
+use Rattle.mat_gen.proofs.Common.{◌+◌, ◌/◌, ◌∙◌, arith, rules}
 use Rattle.mat_gen.proofs.PairMade.{pair_made}
 use Rattle.mat_gen.proofs.Validity.{graph_drawn}
 use Rattle.mat_gen.proofs.samples.pair_sample.Goals as goal

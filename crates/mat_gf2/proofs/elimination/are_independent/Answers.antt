@@ -1,8 +1,5 @@
 -- The columns from the last member on are reduced to a basis; a column of which nothing is left is a sum of later ones.
-use Rattle.std.proofs.Common.{◌≡◌, ◌∙◌, ◌-◌, sym, ap, subst, drop, [], arith}
-use Rattle.mat_gf2.specs.Columns.{IsLinearlyIndependent, column_of}
-use Rattle.mat_gf2.specs.Eliminations.{reduced_by}
-use Rattle.mat_gf2.specs.SpanLaws.{test_from-IsLinearlyIndependent}
+use Rattle.mat_gf2.proofs.Common.{◌≡◌, ◌∙◌, ◌-◌, sym, ap, subst, drop, [], arith, IsLinearlyIndependent, column_of, reduced_by, test_from-IsLinearlyIndependent}
 use Rattle.mat_gf2.proofs.Eliminating.{IsEliminating, IsEliminating-start, IsEliminating-more, drop_length, drop_before, below_before, dependent_from}
 use Rattle.mat_gf2.proofs.elimination.are_independent.Goals as goal
 

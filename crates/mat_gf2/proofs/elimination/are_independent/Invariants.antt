@@ -1,5 +1,4 @@
-use Rattle.std.proofs.Common.{drop}
-use Rattle.mat_gf2.specs.Columns.{column_of}
+use Rattle.mat_gf2.proofs.Common.{drop, column_of}
 use Rattle.mat_gf2.proofs.Eliminating.{IsEliminating}
 use Rattle.mat_gf2.proofs.elimination.are_independent.Given as goal
 

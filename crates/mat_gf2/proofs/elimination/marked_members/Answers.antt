@@ -1,4 +1,4 @@
-use Rattle.std.proofs.Common.{◌∙◌, ◌+◌, ◌<◌, sym, subst, length, arith}
+use Rattle.mat_gf2.proofs.Common.{◌∙◌, ◌+◌, ◌<◌, sym, subst, length, arith}
 use Rattle.mat_gf2.proofs.Markings.{IsMarking, IsMarking-found, IsMarking-passed, IsMarking-end}
 use Rattle.mat_gf2.proofs.elimination.marked_members.Goals as goal
 use Rattle.mat_gf2.proofs.elimination.marked_members.Goals.{then-tag-place-eq1+in_ok-add, else-tag-place-eq1}

@@ -1,5 +1,4 @@
-use Rattle.std.proofs.Common.{◌≡◌, drop}
-use Rattle.mat_gf2.specs.TaggedColumns.{reduced_tagged_by}
+use Rattle.mat_gf2.proofs.Common.{◌≡◌, drop, reduced_tagged_by}
 use Rattle.mat_gf2.proofs.elimination.reduce_tagged.Given as goal
 
 abbrev pub invariant-loop-row : goal.invariant-loop-row

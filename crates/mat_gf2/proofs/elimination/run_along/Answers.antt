@@ -1,10 +1,6 @@
 -- The basis is that of the set so far: an element enters if something is left of its column, and else it is a sum of members.
-use Rattle.std.proofs.Common.{◌∙◌, true, false, length, refl, ap, slice_index_or}
+use Rattle.mat_gf2.proofs.Common.{◌∙◌, true, false, length, refl, ap, slice_index_or, AllBelow-at, IsRunning-start, IsRunning-next, IsRunning-end, column_of, reduced_by}
 use Rattle.std.proofs.lemmas.Result.{IfOk-weaker}
-use Rattle.mat_sets.proofs.Sums.{AllBelow-at}
-use Rattle.mat_laws.proofs.GreedyRunSteps.{IsRunning-start, IsRunning-next, IsRunning-end}
-use Rattle.mat_gf2.specs.Columns.{column_of}
-use Rattle.mat_gf2.specs.Eliminations.{reduced_by}
 use Rattle.mat_gf2.specs.Gf2Laws.{gf2_laws}
 use Rattle.mat_gf2.proofs.GrowingBasis.{IsBasisOf-start, IsBasisOf-more, enters, stays_out}
 use Rattle.mat_gf2.proofs.elimination.run_along.Goals as goal

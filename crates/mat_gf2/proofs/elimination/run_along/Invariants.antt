@@ -1,6 +1,4 @@
-use Rattle.std.proofs.Common.{length}
-use Rattle.mat_laws.proofs.GreedyRunSteps.{IsRunning}
-use Rattle.mat_gf2.specs.Columns.{column_of, is_gf2}
+use Rattle.mat_gf2.proofs.Common.{length, IsRunning, column_of, is_gf2}
 use Rattle.mat_gf2.proofs.GrowingBasis.{IsBasisOf}
 use Rattle.mat_gf2.proofs.elimination.run_along.Given as goal
 

@@ -1,7 +1,4 @@
-use Rattle.std.proofs.Common.{◌∙◌, ◌-◌, ◌*◌, ◌^◌, ◌%◌, ◌<◌, sym, ap, subst, refl, drop, [], length, arith}
-use Rattle.mat_gf2.specs.declared.elimination.TaggedColumn.{TaggedColumn}
-use Rattle.mat_gf2.specs.Columns.{column_of}
-use Rattle.mat_gf2.specs.TaggedColumns.{reduced_tagged_by, IsTaggedBasis}
+use Rattle.mat_gf2.proofs.Common.{◌∙◌, ◌-◌, ◌*◌, ◌^◌, ◌%◌, ◌<◌, sym, ap, subst, refl, drop, [], length, arith, TaggedColumn, column_of, reduced_tagged_by, IsTaggedBasis}
 use Rattle.mat_gf2.proofs.Eliminating.{drop_length, drop_before, below_before}
 use Rattle.mat_gf2.proofs.Tags.{IsTaggedBasis-start, IsTaggedBasis-more, marked-one_bit}
 use Rattle.mat_gf2.proofs.elimination.tagged_basis.Goals as goal

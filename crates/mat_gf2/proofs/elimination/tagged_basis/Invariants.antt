@@ -1,6 +1,4 @@
-use Rattle.std.proofs.Common.{drop}
-use Rattle.mat_gf2.specs.Columns.{column_of}
-use Rattle.mat_gf2.specs.TaggedColumns.{IsTaggedBasis}
+use Rattle.mat_gf2.proofs.Common.{drop, column_of, IsTaggedBasis}
 use Rattle.mat_gf2.proofs.elimination.tagged_basis.Given as goal
 
 abbrev pub invariant-loop-place : goal.invariant-loop-place

@@ -1,8 +1,4 @@
-use Rattle.std.proofs.lemmas.Bool.{and_from, and_parts}
-use Rattle.mat_sets.specs.SetTests.{is_set}
-use Rattle.mat_sets.proofs.SetTests.{IsSet-from_test, test_from-IsSet}
-use Rattle.mat_gf2.specs.Columns.{is_linearly_independent}
-use Rattle.mat_gf2.specs.SpanLaws.{IsLinearlyIndependent-from_test, test_from-IsLinearlyIndependent}
+use Rattle.mat_gf2.proofs.Common.{and_from, and_parts, is_set, IsSet-from_test, test_from-IsSet, is_linearly_independent, IsLinearlyIndependent-from_test, test_from-IsLinearlyIndependent}
 use Rattle.mat_gf2.proofs.laws.independent_sets_mean.Goals as goal
 
 pub returns : goal.returns

@@ -1,4 +1,4 @@
-use Rattle.mat_gf2.specs.SpanLaws.{IsLinearlyIndependent-from_test, test_from-IsLinearlyIndependent}
+use Rattle.mat_gf2.proofs.Common.{IsLinearlyIndependent-from_test, test_from-IsLinearlyIndependent}
 use Rattle.mat_gf2.proofs.laws.linear_independence_means.Goals as goal
 
 pub returns : goal.returns

@@ -1,7 +1,6 @@
 -- The column passes the checks so far.
-use Rattle.std.proofs.Common.{◌≡◌, false, take}
+use Rattle.mat_gf2.proofs.Common.{◌≡◌, false, take, inner_product_is_one}
 use Rattle.std.specs.List.{list_any}
-use Rattle.mat_gf2.specs.InnerProducts.{inner_product_is_one}
 use Rattle.mat_gf2.proofs.parity.fails_check.Given as goal
 
 abbrev pub invariant-loop-check : goal.invariant-loop-check

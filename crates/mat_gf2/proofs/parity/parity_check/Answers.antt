@@ -1,6 +1,4 @@
-use Rattle.std.proofs.Common.{◌≡◌, subst, refl, drop, arith}
-use Rattle.mat_gf2.specs.declared.elimination.TaggedColumn.{TaggedColumn}
-use Rattle.mat_gf2.specs.ParityChecks.{IsTransposed}
+use Rattle.mat_gf2.proofs.Common.{◌≡◌, subst, refl, drop, arith, TaggedColumn, IsTransposed}
 use Rattle.mat_gf2.proofs.ParityChecks.{IsTransposed-check, IsTransposed-more, IsTransposed-start}
 use Rattle.mat_gf2.proofs.parity.parity_check.Goals as goal
 

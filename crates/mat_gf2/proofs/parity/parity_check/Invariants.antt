@@ -1,6 +1,5 @@
 -- The rows from the place on are transposed.
-use Rattle.std.proofs.Common.{drop}
-use Rattle.mat_gf2.specs.ParityChecks.{IsTransposed}
+use Rattle.mat_gf2.proofs.Common.{drop, IsTransposed}
 use Rattle.mat_gf2.proofs.parity.parity_check.Given as goal
 
 abbrev pub invariant-loop-place : goal.invariant-loop-place

@@ -1,7 +1,5 @@
 -- The numbers so far are parity checks of the span of the basis, one for each start.
-use Rattle.std.proofs.Common.{◌≡◌, length}
-use Rattle.std.specs.Prelude.{All}
-use Rattle.mat_gf2.specs.ParityChecks.{IsParityCheck}
+use Rattle.mat_gf2.proofs.Common.{◌≡◌, length, All, IsParityCheck}
 use Rattle.mat_gf2.proofs.parity.parity_checks.Given as goal
 
 abbrev pub invariant-loop-start : goal.invariant-loop-start

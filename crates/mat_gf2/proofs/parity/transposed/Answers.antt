@@ -1,7 +1,5 @@
-use Rattle.std.proofs.Common.{◌∙◌, ap, sym}
-use Rattle.std.proofs.lemmas.Nat.{one_shl}
+use Rattle.mat_gf2.proofs.Common.{◌∙◌, ap, sym, one_shl, inner_product_is_one}
 use Rattle.std.specs.Int.Bits.{bit_xor}
-use Rattle.mat_gf2.specs.InnerProducts.{inner_product_is_one}
 use Rattle.mat_gf2.proofs.ParityChecks.{positive_from_product, transposed-passed, transposed-failed}
 use Rattle.mat_gf2.proofs.parity.transposed.Goals as goal
 

@@ -1,5 +1,4 @@
-use Rattle.std.proofs.Common.{◌∙◌, ap, get_or, length, map}
-use Rattle.mat_graphic.specs.Forests.{class_of}
+use Rattle.mat_graphic.proofs.Common.{◌∙◌, ap, get_or, length, map, class_of}
 use Rattle.mat_graphic.proofs.components.component_sets.Goals as goal
 
 pub returns : goal.returns

@@ -1,6 +1,4 @@
-use Rattle.std.proofs.Common.{◌∙◌, ℕ, List, [], ◌∷◌, ◌++◌, ap, get_or, length, map, sym}
-use Rattle.std.proofs.lemmas.List.{map_more, take_all}
-use Rattle.mat_graphic.specs.Forests.{class_of}
+use Rattle.mat_graphic.proofs.Common.{◌∙◌, ℕ, List, [], ◌∷◌, ◌++◌, ap, get_or, length, map, sym, map_more, take_all, class_of}
 use Rattle.mat_graphic.proofs.components.components_at.Goals as goal
 
 pub loop-root-init : goal.loop-root-init

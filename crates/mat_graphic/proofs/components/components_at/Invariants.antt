@@ -1,6 +1,5 @@
 -- The components of the least vertices so far.
-use Rattle.std.proofs.Common.{◌≡◌, get_or, length, map, take}
-use Rattle.mat_graphic.specs.Forests.{class_of}
+use Rattle.mat_graphic.proofs.Common.{◌≡◌, get_or, length, map, take, class_of}
 use Rattle.mat_graphic.proofs.components.components_at.Given as goal
 
 abbrev pub invariant-loop-root : goal.invariant-loop-root

@@ -1,5 +1,4 @@
-use Rattle.std.proofs.Common.{◌∙◌, eqb, get_or}
-use Rattle.mat_sets.proofs.Rounds.{those_below-more, those_below-none}
+use Rattle.mat_graphic.proofs.Common.{◌∙◌, eqb, get_or, those_below-more, those_below-none}
 use Rattle.mat_graphic.proofs.components.least_vertices.Goals as goal
 
 pub loop-v-init : goal.loop-v-init

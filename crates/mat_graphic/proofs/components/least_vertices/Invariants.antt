@@ -1,6 +1,5 @@
 -- The vertices so far that are their own least ones are in the set.
-use Rattle.std.proofs.Common.{◌≡◌, get_or}
-use Rattle.mat_graphic.specs.Forests.{roots_of}
+use Rattle.mat_graphic.proofs.Common.{◌≡◌, get_or, roots_of}
 use Rattle.mat_graphic.proofs.components.least_vertices.Given as goal
 
 abbrev pub invariant-loop-v : goal.invariant-loop-v

@@ -1,7 +1,4 @@
-use Rattle.std.proofs.Common.{ℕ, ◌∙◌, ap, eqb, get_or}
-use Rattle.std.proofs.lemmas.Bool.{eq-eqb, ne_eqb}
-use Rattle.mat_sets.specs.Sets.{with_one}
-use Rattle.mat_sets.proofs.Rounds.{those_below-none, those_below-put, those_below-skip}
+use Rattle.mat_graphic.proofs.Common.{ℕ, ◌∙◌, ap, eqb, get_or, eq-eqb, ne_eqb, with_one, those_below-none, those_below-put, those_below-skip}
 use Rattle.mat_graphic.proofs.components.members_with.Goals as goal
 use Rattle.mat_graphic.proofs.components.members_with.Goals.{then-least-v+in_ok-add, else-least-v}
 

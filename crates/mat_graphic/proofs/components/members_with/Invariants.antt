@@ -1,6 +1,5 @@
 -- The vertices of the component so far.
-use Rattle.std.proofs.Common.{◌≡◌, get_or}
-use Rattle.mat_graphic.specs.Forests.{class_of}
+use Rattle.mat_graphic.proofs.Common.{◌≡◌, get_or, class_of}
 use Rattle.mat_graphic.proofs.components.members_with.Given as goal
 
 abbrev pub invariant-loop-v : goal.invariant-loop-v

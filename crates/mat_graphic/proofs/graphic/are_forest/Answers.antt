@@ -1,11 +1,5 @@
 -- The table has the components of the edges so far, from the last to the first; an edge within a component closes a circuit.
-use Rattle.std.proofs.Common.{◌≡◌, ◌-◌, length, drop, sym, subst, arith}
-use Rattle.mat_sets.specs.Graphs.{ends_of}
-use Rattle.mat_sets.proofs.Sums.{AllBelow-at}
-use Rattle.mat_graphic.specs.Forests.{IsForest}
-use Rattle.mat_graphic.specs.Mergings.{least_merged}
-use Rattle.mat_graphic.specs.ForestLaws.{test_from-IsForest}
-use Rattle.mat_graphic.specs.ParentTables.{IsParentTable}
+use Rattle.mat_graphic.proofs.Common.{◌≡◌, ◌-◌, length, drop, sym, subst, arith, ends_of, AllBelow-at, IsForest, least_merged, test_from-IsForest, IsParentTable}
 use Rattle.mat_graphic.proofs.Uniting.{table_none, forest_none, edge_before, forest_more, not_forest}
 use Rattle.mat_graphic.proofs.graphic.are_forest.Goals as goal
 

@@ -1,8 +1,4 @@
-use Rattle.std.proofs.Common.{drop}
-use Rattle.mat_sets.specs.Graphs.{ends_of}
-use Rattle.mat_graphic.specs.Forests.{IsForest}
-use Rattle.mat_graphic.specs.Mergings.{least_merged}
-use Rattle.mat_graphic.specs.ParentTables.{IsDescending, IsParentTable}
+use Rattle.mat_graphic.proofs.Common.{drop, ends_of, IsForest, least_merged, IsDescending, IsParentTable}
 use Rattle.mat_graphic.proofs.graphic.are_forest.Given as goal
 
 -- the edges from place i on are united, and are a forest

@@ -1,13 +1,5 @@
 -- The table has the components of the set so far; an edge enters if its ends lie in two of them.
-use Rattle.std.proofs.Common.{◌≡◌, if◌then◌else◌, length, get_or, refl, ◌∙◌, subst, sym}
-use Rattle.std.proofs.lemmas.Result.{IfOk-weaker}
-use Rattle.mat_sets.specs.Graphs.{ends_of}
-use Rattle.mat_sets.specs.Sets.{with_one}
-use Rattle.mat_sets.proofs.Sums.{AllBelow-at}
-use Rattle.mat_laws.proofs.GreedyRunSteps.{IsRunning-start, IsRunning-next, IsRunning-end}
-use Rattle.mat_graphic.specs.Mergings.{least_merged}
-use Rattle.mat_graphic.specs.ForestLaws.{graphic_laws}
-use Rattle.mat_graphic.specs.ParentTables.{IsParentTable}
+use Rattle.mat_graphic.proofs.Common.{◌≡◌, if◌then◌else◌, length, get_or, refl, ◌∙◌, subst, sym, IfOk-weaker, ends_of, with_one, AllBelow-at, IsRunning-start, IsRunning-next, IsRunning-end, least_merged, graphic_laws, IsParentTable}
 use Rattle.mat_graphic.proofs.GraphicRuns.{enters_apart, table_after}
 use Rattle.mat_graphic.proofs.Uniting.{table_empty}
 use Rattle.mat_graphic.proofs.graphic.forest_along.Goals as goal

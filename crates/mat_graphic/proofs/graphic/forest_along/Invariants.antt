@@ -1,9 +1,4 @@
-use Rattle.std.proofs.Common.{length}
-use Rattle.mat_sets.specs.Graphs.{ends_of}
-use Rattle.mat_laws.proofs.GreedyRunSteps.{IsRunning}
-use Rattle.mat_graphic.specs.Forests.{is_graphic}
-use Rattle.mat_graphic.specs.Mergings.{least_merged}
-use Rattle.mat_graphic.specs.ParentTables.{IsDescending, IsParentTable}
+use Rattle.mat_graphic.proofs.Common.{length, ends_of, IsRunning, is_graphic, least_merged, IsDescending, IsParentTable}
 use Rattle.mat_graphic.proofs.graphic.forest_along.Given as goal
 
 -- the set has come over the edges so far, and the table is of its components

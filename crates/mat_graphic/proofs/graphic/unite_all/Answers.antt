@@ -1,6 +1,4 @@
-use Rattle.std.proofs.Common.{◌-◌, length, arith}
-use Rattle.mat_sets.specs.Graphs.{ends_of}
-use Rattle.mat_sets.proofs.Sums.{AllBelow-at}
+use Rattle.mat_graphic.proofs.Common.{◌-◌, length, arith, ends_of, AllBelow-at}
 use Rattle.mat_graphic.proofs.Uniting.{table_none}
 use Rattle.mat_graphic.proofs.graphic.unite_all.Goals as goal
 

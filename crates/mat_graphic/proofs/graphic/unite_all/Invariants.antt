@@ -1,7 +1,4 @@
-use Rattle.std.proofs.Common.{drop}
-use Rattle.mat_sets.specs.Graphs.{ends_of}
-use Rattle.mat_graphic.specs.Mergings.{least_merged}
-use Rattle.mat_graphic.specs.ParentTables.{IsDescending, IsParentTable}
+use Rattle.mat_graphic.proofs.Common.{drop, ends_of, least_merged, IsDescending, IsParentTable}
 use Rattle.mat_graphic.proofs.graphic.unite_all.Given as goal
 
 -- the edges from place i on are united

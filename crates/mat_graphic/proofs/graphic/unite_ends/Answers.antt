@@ -1,5 +1,4 @@
-use Rattle.mat_sets.specs.Graphs.{ends_of}
-use Rattle.mat_graphic.specs.Mergings.{least_merged}
+use Rattle.mat_graphic.proofs.Common.{ends_of, least_merged}
 use Rattle.mat_graphic.proofs.Uniting.{table_more}
 use Rattle.mat_graphic.proofs.graphic.unite_ends.Goals as goal
 

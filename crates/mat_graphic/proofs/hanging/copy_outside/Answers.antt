@@ -1,6 +1,5 @@
 -- The vertices of other trees are copied in their order, so that one before a vertex is copied before it; those of the hung tree are passed over.
-use Rattle.std.proofs.Common.{◌<◌, false, length, get_or, sym, ap, ◌∙◌, arith}
-use Rattle.mat_sets.proofs.Sums.{AllBelow-at}
+use Rattle.mat_graphic.proofs.Common.{◌<◌, false, length, get_or, sym, ap, ◌∙◌, arith, AllBelow-at}
 use Rattle.mat_graphic.proofs.HungTrees.{child_findable, root_findable, IsCopied-passed, IsCopied-visited}
 use Rattle.mat_graphic.proofs.TrailScans.{item_of}
 use Rattle.mat_graphic.proofs.hanging.copy_outside.Goals as goal

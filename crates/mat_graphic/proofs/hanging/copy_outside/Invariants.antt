@@ -1,4 +1,4 @@
-use Rattle.mat_graphic.specs.Hanging.{IsCopied}
+use Rattle.mat_graphic.proofs.Common.{IsCopied}
 use Rattle.mat_graphic.proofs.hanging.copy_outside.Given as goal
 
 abbrev pub invariant-loop-at : goal.invariant-loop-at

@@ -1,4 +1,4 @@
-use Rattle.std.proofs.Common.{arith}
+use Rattle.mat_graphic.proofs.Common.{arith}
 use Rattle.mat_graphic.proofs.HungTrees.{new_member_is}
 use Rattle.mat_graphic.proofs.hanging.new_member.Goals as goal
 

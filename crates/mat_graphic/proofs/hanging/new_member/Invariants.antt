@@ -1,4 +1,4 @@
-use Rattle.std.proofs.Common.{◌≡◌, ◌+◌, ◌-◌, ◌<◌, ◌≤◌, ℕ, length, get_or}
+use Rattle.mat_graphic.proofs.Common.{◌≡◌, ◌+◌, ◌-◌, ◌<◌, ◌≤◌, ℕ, length, get_or}
 use Rattle.mat_graphic.proofs.hanging.new_member.Given as goal
 
 abbrev pub invariant-loop-at : goal.invariant-loop-at

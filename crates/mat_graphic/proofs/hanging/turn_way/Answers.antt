@@ -1,6 +1,5 @@
 -- The way from a vertex to its root is turned round: each vertex on it is put below the one that came before, up to the root.
-use Rattle.std.proofs.Common.{◌<◌, length, get_or, sym, subst, arith}
-use Rattle.mat_sets.proofs.Sums.{AllBelow-at}
+use Rattle.mat_graphic.proofs.Common.{◌<◌, length, get_or, sym, subst, arith, AllBelow-at}
 use Rattle.mat_graphic.proofs.HungTrees.{IsTurned-end, IsTurning, IsTurning-more}
 use Rattle.mat_graphic.proofs.TrailScans.{item_of}
 use Rattle.mat_graphic.proofs.hanging.turn_way.Goals as goal

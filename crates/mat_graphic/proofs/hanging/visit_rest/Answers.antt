@@ -1,6 +1,5 @@
 -- The vertices that are not found yet are put below those before them, in their old order; the others are passed over.
-use Rattle.std.proofs.Common.{◌<◌, length, get_or, sym, ap, ◌∙◌, arith}
-use Rattle.mat_sets.proofs.Sums.{AllBelow-at}
+use Rattle.mat_graphic.proofs.Common.{◌<◌, length, get_or, sym, ap, ◌∙◌, arith, AllBelow-at}
 use Rattle.mat_graphic.proofs.HungTrees.{IsHung-passed, IsHung-visited}
 use Rattle.mat_graphic.proofs.TrailScans.{item_of}
 use Rattle.mat_graphic.proofs.hanging.visit_rest.Goals as goal

@@ -1,4 +1,4 @@
-use Rattle.mat_graphic.specs.Hanging.{IsHung}
+use Rattle.mat_graphic.proofs.Common.{IsHung}
 use Rattle.mat_graphic.proofs.hanging.visit_rest.Given as goal
 
 abbrev pub invariant-loop-at : goal.invariant-loop-at

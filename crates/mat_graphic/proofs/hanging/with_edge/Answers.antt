@@ -1,6 +1,4 @@
-use Rattle.std.proofs.Common.{[], ap, subst, sym, ◌∙◌}
-use Rattle.mat_graphic.specs.Hanging.{AreFlags, IsTurned}
-use Rattle.mat_graphic.specs.Mergings.{least_merged}
+use Rattle.mat_graphic.proofs.Common.{[], ap, subst, sym, ◌∙◌, AreFlags, IsTurned, least_merged}
 use Rattle.mat_graphic.proofs.HungTrees.{hung_is_rooted, roots_found}
 use Rattle.mat_graphic.proofs.hanging.with_edge.Goals as goal
 

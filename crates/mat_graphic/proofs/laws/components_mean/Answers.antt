@@ -1,5 +1,4 @@
-use Rattle.std.proofs.Common.{◌∙◌, subst, sym}
-use Rattle.mat_graphic.specs.Forests.{IsLeastReached}
+use Rattle.mat_graphic.proofs.Common.{◌∙◌, subst, sym, IsLeastReached}
 use Rattle.mat_graphic.proofs.ComponentCounts.{least_merged-is}
 use Rattle.mat_graphic.proofs.ComponentCounts.{IsLeastReached-unique, least_reached-merged}
 use Rattle.mat_graphic.proofs.laws.components_mean.Goals as goal

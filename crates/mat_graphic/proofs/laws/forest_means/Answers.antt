@@ -1,4 +1,4 @@
-use Rattle.mat_graphic.specs.ForestLaws.{IsForest-from_test, test_from-IsForest}
+use Rattle.mat_graphic.proofs.Common.{IsForest-from_test, test_from-IsForest}
 use Rattle.mat_graphic.proofs.laws.forest_means.Goals as goal
 
 pub returns : goal.returns

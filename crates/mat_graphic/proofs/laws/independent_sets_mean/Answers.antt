@@ -1,8 +1,4 @@
-use Rattle.std.proofs.lemmas.Bool.{and_from, and_parts}
-use Rattle.mat_sets.specs.SetTests.{is_set}
-use Rattle.mat_sets.proofs.SetTests.{IsSet-from_test, test_from-IsSet}
-use Rattle.mat_graphic.specs.Forests.{is_forest}
-use Rattle.mat_graphic.specs.ForestLaws.{IsForest-from_test, test_from-IsForest}
+use Rattle.mat_graphic.proofs.Common.{and_from, and_parts, is_set, IsSet-from_test, test_from-IsSet, is_forest, IsForest-from_test, test_from-IsForest}
 use Rattle.mat_graphic.proofs.laws.independent_sets_mean.Goals as goal
 
 pub returns : goal.returns

@@ -1,5 +1,4 @@
-use Rattle.std.proofs.Common.{◌∙◌, eqb, ap}
-use Rattle.mat_graphic.specs.Mergings.{least_merged}
+use Rattle.mat_graphic.proofs.Common.{◌∙◌, eqb, ap, least_merged}
 use Rattle.mat_graphic.proofs.Roots.{component_at, roots-differ}
 use Rattle.mat_graphic.proofs.rooted_forest.are_joined.Goals as goal
 

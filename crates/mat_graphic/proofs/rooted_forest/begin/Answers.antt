@@ -1,4 +1,4 @@
-use Rattle.std.proofs.Common.{◌≡◌, ◌<◌, ℕ, length, get_or, None, ap, arith, rules}
+use Rattle.mat_graphic.proofs.Common.{◌≡◌, ◌<◌, ℕ, length, get_or, None, ap, arith, rules}
 use Rattle.std.proofs.lemmas.Grind.{common_steps}
 use Rattle.mat_graphic.proofs.TrailScans.{IsExploring-none}
 use Rattle.mat_graphic.proofs.rooted_forest.begin.Goals as goal

@@ -1,5 +1,4 @@
-use Rattle.std.proofs.Common.{◌<◌, length, get_or, subst, sym, arith}
-use Rattle.mat_graphic.specs.TrailSearches.{IsClimbing, IsTrailSet}
+use Rattle.mat_graphic.proofs.Common.{◌<◌, length, get_or, subst, sym, arith, IsClimbing, IsTrailSet}
 use Rattle.mat_graphic.proofs.Climbing.{IsClimbing-start, IsClimbing-end}
 use Rattle.mat_graphic.proofs.rooted_forest.climb.Goals as goal
 

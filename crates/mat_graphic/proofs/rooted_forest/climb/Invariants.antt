@@ -1,5 +1,4 @@
-use Rattle.std.proofs.Common.{ℕ, List, ◌<◌, ◌+◌, length}
-use Rattle.mat_graphic.specs.TrailSearches.{IsClimbing, IsTree}
+use Rattle.mat_graphic.proofs.Common.{ℕ, List, ◌<◌, ◌+◌, length, IsClimbing, IsTree}
 use Rattle.mat_graphic.proofs.rooted_forest.climb.Given as goal
 
 abbrev pub invariant-loop-first : goal.invariant-loop-first

@@ -1,5 +1,4 @@
-use Rattle.std.proofs.Common.{length}
-use Rattle.mat_sets.proofs.Sums.{AllBelow-at}
+use Rattle.mat_graphic.proofs.Common.{length, AllBelow-at}
 use Rattle.mat_graphic.proofs.rooted_forest.ends_in.Goals as goal
 
 pub bounds-edges-e : goal.bounds-edges-e

@@ -1,4 +1,4 @@
-use Rattle.mat_sets.specs.Graphs.{ends_of}
+use Rattle.mat_graphic.proofs.Common.{ends_of}
 use Rattle.mat_graphic.proofs.TrailTables.{AreEndsBefore}
 use Rattle.mat_graphic.proofs.rooted_forest.ends_in.Given as goal
 

@@ -1,5 +1,5 @@
 -- The later of the two places climbs to the one before it, and its edge gets the entry, until both meet or one has none before it.
-use Rattle.std.proofs.Common.{◌<◌, length, refl, subst, sym, arith}
+use Rattle.mat_graphic.proofs.Common.{◌<◌, length, refl, subst, sym, arith}
 use Rattle.mat_graphic.proofs.EnteredTrails.{step_below, IsEntering, IsEntering-start, IsEntering-step, entered_apart, entered_joined}
 use Rattle.mat_graphic.proofs.rooted_forest.enter_climb.Goals as goal
 

@@ -1,6 +1,5 @@
 -- The search from a new root takes each found vertex in turn and finds its neighbours; what was found before stays in front.
-use Rattle.std.proofs.Common.{◌≡◌, ◌∙◌, length, subst, sym, arith}
-use Rattle.mat_graphic.specs.TrailSearches.{IsExploring}
+use Rattle.mat_graphic.proofs.Common.{◌≡◌, ◌∙◌, length, subst, sym, arith, IsExploring}
 use Rattle.mat_graphic.proofs.TrailScans.{IsExploring-root, IsExploring-next, IsFront-member, IsFront-trans, length-order}
 use Rattle.mat_graphic.proofs.rooted_forest.explore.Goals as goal
 

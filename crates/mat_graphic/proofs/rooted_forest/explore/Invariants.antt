@@ -1,6 +1,4 @@
-use Rattle.std.proofs.Common.{◌≡◌, true, length, ◌-◌}
-use Rattle.mat_sets.specs.Sets.{is_member}
-use Rattle.mat_graphic.specs.TrailSearches.{IsExploring, IsFront}
+use Rattle.mat_graphic.proofs.Common.{◌≡◌, true, length, ◌-◌, is_member, IsExploring, IsFront}
 use Rattle.mat_graphic.proofs.rooted_forest.explore.Given as goal
 
 abbrev pub invariant-loop-at : goal.invariant-loop-at

@@ -1,8 +1,5 @@
 -- All vertices so far are found, each by a search from it or from an earlier one.
-use Rattle.std.proofs.Common.{◌≡◌, true, inl, inr, length, subst, sym, arith, ◌∙◌}
-use Rattle.std.proofs.lemmas.Bool.{cases_lt}
-use Rattle.mat_sets.specs.Sets.{is_member}
-use Rattle.mat_graphic.specs.TrailSearches.{IsExploring}
+use Rattle.mat_graphic.proofs.Common.{◌≡◌, true, inl, inr, length, subst, sym, arith, ◌∙◌, cases_lt, is_member, IsExploring}
 use Rattle.mat_graphic.proofs.TrailScans.{IsFront-member}
 use Rattle.mat_graphic.proofs.rooted_forest.explore_all.Goals as goal
 

@@ -1,6 +1,4 @@
-use Rattle.std.proofs.Common.{◌≡◌, ◌<◌, ℕ, true, length}
-use Rattle.mat_sets.specs.Sets.{is_member}
-use Rattle.mat_graphic.specs.TrailSearches.{IsExploring}
+use Rattle.mat_graphic.proofs.Common.{◌≡◌, ◌<◌, ℕ, true, length, is_member, IsExploring}
 use Rattle.mat_graphic.proofs.rooted_forest.explore_all.Given as goal
 
 abbrev pub invariant-loop-v : goal.invariant-loop-v

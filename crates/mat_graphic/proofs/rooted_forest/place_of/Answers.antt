@@ -1,6 +1,5 @@
-use Rattle.std.proofs.Common.{◌∙◌, sym, subst, arith, rules}
+use Rattle.mat_graphic.proofs.Common.{◌∙◌, sym, subst, arith, rules, AllBelow-member}
 use Rattle.std.specs.Option.{IsSome}
-use Rattle.mat_sets.proofs.Ground.{AllBelow-member}
 use Rattle.mat_graphic.proofs.TrailTables.{entry_of, found_place}
 use Rattle.mat_graphic.proofs.rooted_forest.place_of.Goals as goal
 

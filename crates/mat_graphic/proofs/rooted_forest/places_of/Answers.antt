@@ -1,6 +1,4 @@
-use Rattle.std.proofs.Common.{◌-◌, ◌<◌, ◌∙◌, length, get_or, set, Some, refl, subst, arith, length-set}
-use Rattle.mat_sets.proofs.Sums.{AllBelow-at}
-use Rattle.mat_graphic.specs.TrailSearches.{ArePlaces}
+use Rattle.mat_graphic.proofs.Common.{◌-◌, ◌<◌, ◌∙◌, length, get_or, set, Some, refl, subst, arith, length-set, AllBelow-at, ArePlaces}
 use Rattle.mat_graphic.proofs.TrailTables.{ArePlaces-more, entry_of}
 use Rattle.mat_graphic.proofs.rooted_forest.places_of.Goals as goal
 

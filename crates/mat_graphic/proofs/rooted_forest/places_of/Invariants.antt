@@ -1,5 +1,4 @@
-use Rattle.std.proofs.Common.{◌≡◌, length}
-use Rattle.mat_graphic.specs.TrailSearches.{ArePlaces}
+use Rattle.mat_graphic.proofs.Common.{◌≡◌, length, ArePlaces}
 use Rattle.mat_graphic.proofs.rooted_forest.places_of.Given as goal
 
 abbrev pub invariant-loop-i : goal.invariant-loop-i

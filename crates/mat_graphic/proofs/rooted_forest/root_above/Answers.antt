@@ -1,4 +1,4 @@
-use Rattle.std.proofs.Common.{◌≡◌, ◌<◌, ◌∙◌, length, subst, arith}
+use Rattle.mat_graphic.proofs.Common.{◌≡◌, ◌<◌, ◌∙◌, length, subst, arith}
 use Rattle.mat_graphic.proofs.Roots.{component_at, same-before}
 use Rattle.mat_graphic.proofs.TrailScans.{item_of}
 use Rattle.mat_graphic.proofs.rooted_forest.root_above.Goals as goal

@@ -1,5 +1,4 @@
-use Rattle.std.proofs.Common.{◌≡◌, ◌<◌, ℕ, List, length}
-use Rattle.mat_graphic.specs.TrailSearches.{IsTree}
+use Rattle.mat_graphic.proofs.Common.{◌≡◌, ◌<◌, ℕ, List, length, IsTree}
 use Rattle.mat_graphic.proofs.Roots.{component_at}
 use Rattle.mat_graphic.proofs.rooted_forest.root_above.Given as goal
 

@@ -1,8 +1,4 @@
-use Rattle.std.proofs.Common.{sym, subst, length}
-use Rattle.std.proofs.lemmas.Result.{IfOk-weaker}
-use Rattle.mat_sets.specs.Sets.{AllBelow, IsRising}
-use Rattle.mat_sets.specs.Graphs.{ends_of}
-use Rattle.mat_graphic.specs.RootedForests.{IsRootedForest}
+use Rattle.mat_graphic.proofs.Common.{sym, subst, length, IfOk-weaker, AllBelow, IsRising, ends_of, IsRootedForest}
 use Rattle.mat_graphic.proofs.TrailScans.{ends_below}
 use Rattle.mat_graphic.proofs.rooted_forest.root_trees.Goals as goal
 

@@ -1,8 +1,5 @@
 -- Each edge at the vertex finds its other end, or leads to a vertex that was found before.
-use Rattle.std.proofs.Common.{◌<◌, suc, length, get_or, refl, sym, subst, arith}
-use Rattle.mat_sets.specs.Search.{IsNextFrom}
-use Rattle.mat_sets.proofs.Sums.{AllBelow-at}
-use Rattle.mat_graphic.specs.TrailSearches.{stands_at}
+use Rattle.mat_graphic.proofs.Common.{◌<◌, suc, length, get_or, refl, sym, subst, arith, IsNextFrom, AllBelow-at, stands_at}
 use Rattle.mat_graphic.proofs.TrailTables.{entry_of}
 use Rattle.mat_graphic.proofs.TrailScans.{item_of, IsScanning-start, IsScanning-next, scanned_at}
 use Rattle.mat_graphic.proofs.rooted_forest.scan.Goals as goal

@@ -1,4 +1,4 @@
-use Rattle.std.proofs.Common.{length}
+use Rattle.mat_graphic.proofs.Common.{length}
 use Rattle.mat_graphic.proofs.TrailScans.{IsScanning, places_left}
 use Rattle.mat_graphic.proofs.rooted_forest.scan.Given as goal
 

@@ -1,7 +1,6 @@
 -- The later of the two places is a root or a child of an earlier one, so a step makes the later place smaller and keeps that the edges so far join the
 -- two vertices to the two places; where the later one is a root, the trees are different.
-use Rattle.std.proofs.Common.{◌<◌, ◌∙◌, length, refl, arith}
-use Rattle.mat_sets.specs.Sets.{with_one}
+use Rattle.mat_graphic.proofs.Common.{◌<◌, ◌∙◌, length, refl, arith, with_one}
 use Rattle.mat_graphic.proofs.Climbing.{IsClimbing-left, IsClimbing-right, climbed_apart}
 use Rattle.mat_graphic.proofs.TrailScans.{item_of}
 use Rattle.mat_graphic.proofs.rooted_forest.step_up.Goals as goal

@@ -1,4 +1,4 @@
-use Rattle.std.proofs.Common.{◌∙◌, sym}
+use Rattle.mat_graphic.proofs.Common.{◌∙◌, sym}
 use Rattle.mat_graphic.proofs.TrailTables.{found_before, not_found, found_now, only_now, IsOrder-last, IsTree-more}
 use Rattle.mat_graphic.proofs.rooted_forest.visit.Goals as goal
 

@@ -1,4 +1,4 @@
-use Rattle.std.proofs.Common.{get_or, arith}
+use Rattle.mat_graphic.proofs.Common.{get_or, arith}
 use Rattle.mat_graphic.proofs.ParentTables.{IsFinding-start, IsFinding-next, IsFinding-end}
 use Rattle.mat_graphic.proofs.union_find.find.Goals as goal
 

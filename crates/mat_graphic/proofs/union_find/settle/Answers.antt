@@ -1,4 +1,4 @@
-use Rattle.std.proofs.Common.{arith}
+use Rattle.mat_graphic.proofs.Common.{arith}
 use Rattle.mat_graphic.proofs.ParentTables.{IsSettling-next}
 use Rattle.mat_graphic.proofs.union_find.settle.Goals as goal
 

@@ -1,4 +1,4 @@
-use Rattle.std.proofs.Common.{◌<◌, ◌∙◌, max, length, sym, arith}
+use Rattle.mat_graphic.proofs.Common.{◌<◌, ◌∙◌, max, length, sym, arith}
 use Rattle.mat_graphic.proofs.ParentTables.{IsParentTable-joined, IsParentTable-within}
 use Rattle.mat_graphic.proofs.union_find.unite.Goals as goal
 

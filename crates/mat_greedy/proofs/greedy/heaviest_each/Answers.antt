@@ -1,12 +1,6 @@
 -- The run over the whole order is traced: an element is in it exactly where the set so far can take it. So the sets along the order are those of the
 -- greedy algorithm, one more at each element that is taken.
-use Rattle.std.proofs.Common.{◌≡◌, ℕ, ◌+◌, List, get_or, ◌++◌, [], ◌∷◌, if◌then◌else◌, refl, subst, sym, ap, ◌∙◌}
-use Rattle.mat_sets.specs.Sets.{is_member, with_one, AreDistinct}
-use Rattle.mat_sets.specs.Weights.{weight_at}
-use Rattle.mat_laws.specs.GreedyRuns.{grown_along}
-use Rattle.mat_laws.proofs.GreedyRunTraces.{IsTracing-start, IsTracing-next, traced}
-use Rattle.mat_greedy.specs.Order.{IsFallingOrder}
-use Rattle.mat_greedy.specs.Greedy.{AreHeaviestEach}
+use Rattle.mat_greedy.proofs.Common.{◌≡◌, ℕ, ◌+◌, List, get_or, ◌++◌, [], ◌∷◌, if◌then◌else◌, refl, subst, sym, ap, ◌∙◌, is_member, with_one, AreDistinct, weight_at, grown_along, IsTracing-start, IsTracing-next, traced, IsFallingOrder, AreHeaviestEach}
 use Rattle.mat_greedy.proofs.OrderLemmas.{IsFallingOrder-below}
 use Rattle.mat_greedy.proofs.Climbing.{IsClimbingAndTracing, IsClimbing-start, IsClimbing-next, IsClimbing-end}
 use Rattle.mat_greedy.proofs.greedy.heaviest_each.Goals as goal

@@ -1,4 +1,4 @@
-use Rattle.mat_sets.specs.Weights.{weight_at}
+use Rattle.mat_greedy.proofs.Common.{weight_at}
 use Rattle.mat_greedy.proofs.Climbing.{IsClimbingAndTracing}
 use Rattle.mat_greedy.proofs.greedy.heaviest_each.Given as goal
 

@@ -1,9 +1,5 @@
 -- The sum is the weight of the members so far, which by the greedy algorithm are a heaviest set of their size.
-use Rattle.std.proofs.Common.{◌≡◌, [], refl, sym, ap, ◌∙◌, subst, arith}
-use Rattle.mat_sets.specs.Weights.{weight_at}
-use Rattle.mat_laws.specs.GreedyRuns.{grown_along}
-use Rattle.mat_greedy.specs.Order.{IsFallingOrder}
-use Rattle.mat_greedy.specs.Greedy.{AreHeaviestWeights}
+use Rattle.mat_greedy.proofs.Common.{◌≡◌, [], refl, sym, ap, ◌∙◌, subst, arith, weight_at, grown_along, IsFallingOrder, AreHeaviestWeights}
 use Rattle.mat_greedy.proofs.OrderLemmas.{IsFallingOrder-below}
 use Rattle.mat_greedy.proofs.Weighing.{IsSumming-start, IsSumming-stay, IsSumming-more, IsWeighing-end, weighing_few, weights_fit}
 use Rattle.mat_greedy.proofs.greedy.heaviest_weights.Goals as goal

@@ -1,4 +1,4 @@
-use Rattle.mat_sets.specs.Weights.{weight_at}
+use Rattle.mat_greedy.proofs.Common.{weight_at}
 use Rattle.mat_greedy.proofs.Weighing.{IsSumming}
 use Rattle.mat_greedy.proofs.greedy.heaviest_weights.Given as goal
 

@@ -1,8 +1,5 @@
-use Rattle.std.proofs.Common.{◌≡◌, true, rules, sym, ap, ◌∙◌}
-use Rattle.mat_cert.specs.Views.{certificate_of}
-use Rattle.mat_problem.specs.Views.{instance_of}
+use Rattle.mat_judge.proofs.Common.{◌≡◌, true, rules, sym, ap, ◌∙◌, certificate_of, instance_of, failure_in}
 use Rattle.mat_check.specs.Fitting.{fits}
-use Rattle.mat_check.specs.Views.{failure_in}
 use Rattle.mat_judge.proofs.Judging.{yes_or_no}
 use Rattle.mat_judge.proofs.certified.judge_answer.Goals as goal
 

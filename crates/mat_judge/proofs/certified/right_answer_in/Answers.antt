@@ -1,7 +1,4 @@
-use Rattle.std.proofs.lemmas.Result.{IfErr-weaker}
-use Rattle.mat_cert.specs.Views.{certificate_of}
-use Rattle.mat_problem.specs.Views.{instance_of}
-use Rattle.mat_judge.specs.Certified.{IsNotRight}
+use Rattle.mat_judge.proofs.Common.{IfErr-weaker, certificate_of, instance_of, IsNotRight}
 use Rattle.mat_judge.proofs.Judging.{not_right_there, test_fails}
 use Rattle.mat_judge.proofs.certified.right_answer_in.Goals as goal
 

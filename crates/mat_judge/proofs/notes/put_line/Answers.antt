@@ -1,5 +1,4 @@
-use Rattle.std.specs.Prelude.{flat_map}
-use Rattle.mat_judge.specs.Texts.{piece_text}
+use Rattle.mat_judge.proofs.Common.{flat_map, piece_text}
 use Rattle.mat_judge.proofs.Noting.{noted}
 use Rattle.mat_judge.proofs.notes.put_line.Goals as goal
 

@@ -1,5 +1,4 @@
-use Rattle.std.proofs.lemmas.Result.{err_from_is_err_and}
-use Rattle.mat_judge.specs.Texts.{piece_text}
+use Rattle.mat_judge.proofs.Common.{err_from_is_err_and, piece_text}
 use Rattle.mat_judge.proofs.Pieces.{pieces_prefix}
 use Rattle.mat_judge.proofs.notes.put_pieces.Goals as goal
 

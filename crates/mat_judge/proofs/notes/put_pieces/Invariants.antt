@@ -1,7 +1,4 @@
-use Rattle.std.proofs.Common.{◌≤◌, take}
-use Rattle.std.specs.Prelude.{flat_map}
-use Rattle.mat_shelf.specs.Writing.{Appended}
-use Rattle.mat_judge.specs.Texts.{piece_text}
+use Rattle.mat_judge.proofs.Common.{◌≤◌, take, flat_map, Appended, piece_text}
 use Rattle.mat_judge.proofs.notes.put_pieces.Given as goal
 
 abbrev pub invariant-loop-piece : goal.invariant-loop-piece

@@ -1,8 +1,5 @@
-use Rattle.std.proofs.Common.{arith}
+use Rattle.mat_judge.proofs.Common.{arith, take_rest, err_from_is_err_and, Appended-take, AppendedProperPrefix-take}
 use Rattle.std.proofs.lemmas.Grind.{common_steps}
-use Rattle.std.proofs.lemmas.List.{take_rest}
-use Rattle.std.proofs.lemmas.Result.{err_from_is_err_and}
-use Rattle.mat_shelf.proofs.WritingLemmas.{Appended-take, AppendedProperPrefix-take}
 use Rattle.mat_judge.proofs.writing.put_all.Goals as goal
 
 pub loop-at-preserved : goal.loop-at-preserved

@@ -1,5 +1,4 @@
-use Rattle.std.proofs.Common.{◌≤◌, ◌-◌, length, take}
-use Rattle.mat_shelf.specs.Writing.{Appended}
+use Rattle.mat_judge.proofs.Common.{◌≤◌, ◌-◌, length, take, Appended}
 use Rattle.mat_judge.proofs.writing.put_all.Given as goal
 
 abbrev pub invariant-loop-at : goal.invariant-loop-at

@@ -1,7 +1,5 @@
-use Rattle.std.proofs.Common.{ℕ, subst}
-use Rattle.std.proofs.lemmas.Result.{err_from_is_err_and}
+use Rattle.mat_judge.proofs.Common.{ℕ, subst, err_from_is_err_and, AppendedProperPrefix}
 use Rattle.std.specs.Global.{Vec}
-use Rattle.mat_shelf.specs.Writing.{AppendedProperPrefix}
 use Rattle.mat_judge.proofs.Pieces.{pieces_prefix}
 use Rattle.mat_judge.proofs.writing.put_texts.Goals as goal
 

@@ -1,6 +1,4 @@
-use Rattle.std.proofs.Common.{◌≤◌, take}
-use Rattle.mat_shelf.specs.Writing.{Appended}
-use Rattle.mat_judge.specs.Texts.{all_texts}
+use Rattle.mat_judge.proofs.Common.{◌≤◌, take, Appended, all_texts}
 use Rattle.mat_judge.proofs.writing.put_texts.Given as goal
 
 abbrev pub invariant-loop-text : goal.invariant-loop-text

@@ -1,7 +1,4 @@
-use Rattle.std.proofs.Common.{[], ◌∙◌, subst, sym, ap, arith}
-use Rattle.mat_sets.proofs.Ground.{AreDistinct-rising}
-use Rattle.mat_laws.specs.GreedyRuns.{grown_along}
-use Rattle.mat_laws.specs.Ranks.{IsRank}
+use Rattle.mat_laws.proofs.Common.{[], ◌∙◌, subst, sym, ap, arith, AreDistinct-rising, grown_along, IsRank}
 use Rattle.mat_laws.proofs.Independent.{size_bound}
 use Rattle.mat_laws.proofs.Maximal.{IsRank-maximal}
 use Rattle.mat_laws.proofs.RankLaws.{rank-maximal}

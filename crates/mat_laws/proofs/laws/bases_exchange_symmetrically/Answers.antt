@@ -1,4 +1,4 @@
-use Rattle.std.proofs.Common.{arith}
+use Rattle.mat_laws.proofs.Common.{arith}
 use Rattle.mat_laws.proofs.Maximal.{base_largest, IsBase-size}
 use Rattle.mat_laws.proofs.Symmetric.{symmetric_exchange}
 use Rattle.mat_laws.proofs.laws.bases_exchange_symmetrically.Goals as goal

@@ -1,4 +1,4 @@
-use Rattle.std.proofs.Common.{arith}
+use Rattle.mat_laws.proofs.Common.{arith}
 use Rattle.mat_laws.proofs.Maximal.{base_largest}
 use Rattle.mat_laws.proofs.laws.bases_have_one_size.Goals as goal
 

@@ -1,4 +1,4 @@
-use Rattle.std.proofs.Common.{refl}
+use Rattle.mat_laws.proofs.Common.{refl}
 use Rattle.mat_laws.proofs.BestLadders.{cut_bounds}
 use Rattle.mat_laws.proofs.laws.cut_bounds_common_sets.Goals as goal
 

@@ -1,8 +1,4 @@
-use Rattle.std.proofs.Common.{◌≡◌, ℕ, true, ◌<◌}
-use Rattle.mat_sets.specs.Weights.{◌≺◌}
-use Rattle.mat_sets.specs.declared.weight.Weight.{Weight}
-use Rattle.mat_sets.proofs.WeightOrder.{at_most_not, not_at_most}
-use Rattle.mat_laws.specs.TightPaths.{Exchanges, exchanges_at, is_heaviest_addable}
+use Rattle.mat_laws.proofs.Common.{◌≡◌, ℕ, true, ◌<◌, ◌≺◌, Weight, at_most_not, not_at_most, Exchanges, exchanges_at, is_heaviest_addable}
 use Rattle.mat_laws.proofs.TightArcs.{addable_gives, addable_from, heaviest_addable_gives, heaviest_addable_from}
 use Rattle.mat_laws.proofs.laws.heaviest_addable_is_not_below.Goals as goal
 

@@ -1,4 +1,4 @@
-use Rattle.std.proofs.Common.{sym}
+use Rattle.mat_laws.proofs.Common.{sym}
 use Rattle.mat_laws.proofs.RankLaws.{rank-maximal}
 use Rattle.mat_laws.proofs.laws.maximal_has_rank.Goals as goal
 

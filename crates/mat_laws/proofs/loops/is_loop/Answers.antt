@@ -1,5 +1,4 @@
-use Rattle.std.proofs.Common.{◌≡◌, ◌∙◌, ℕ, [], ◌∷◌, not, refl, ap, subst, sym}
-use Rattle.mat_sets.specs.Sets.{AllBelow, with_one}
+use Rattle.mat_laws.proofs.Common.{◌≡◌, ◌∙◌, ℕ, [], ◌∷◌, not, refl, ap, subst, sym, AllBelow, with_one}
 use Rattle.mat_laws.proofs.loops.is_loop.Goals as goal
 
 alone_is : (x : ℕ) → with_one [] x ≡ x ∷ []

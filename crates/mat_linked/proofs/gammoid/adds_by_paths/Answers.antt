@@ -1,6 +1,4 @@
-use Rattle.std.proofs.Common.{◌∙◌, get_or}
-use Rattle.mat_sets.specs.Sets.{is_member}
-use Rattle.mat_sets.proofs.Sums.{AllBelow-at}
+use Rattle.mat_linked.proofs.Common.{◌∙◌, get_or, is_member, AllBelow-at}
 use Rattle.mat_linked.proofs.LinkedRows.{adds_told}
 use Rattle.mat_linked.proofs.gammoid.adds_by_paths.Goals as goal
 

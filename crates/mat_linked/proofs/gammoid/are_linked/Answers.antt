@@ -1,5 +1,4 @@
-use Rattle.std.proofs.Common.{length, refl, arith}
-use Rattle.mat_sets.proofs.Sums.{AllBelow-at}
+use Rattle.mat_linked.proofs.Common.{length, refl, arith, AllBelow-at}
 use Rattle.mat_linked.proofs.LinkedRuns.{all_linked, part_not_linked, IsLinkedRun-all_so_far, IsLinkedRun-start}
 use Rattle.mat_linked.proofs.gammoid.are_linked.Goals as goal
 

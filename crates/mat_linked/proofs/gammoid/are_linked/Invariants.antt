@@ -1,4 +1,4 @@
-use Rattle.std.proofs.Common.{take}
+use Rattle.mat_linked.proofs.Common.{take}
 use Rattle.mat_linked.proofs.LinkedRuns.{IsLinkedRun}
 use Rattle.mat_linked.proofs.gammoid.are_linked.Given as goal
 

@@ -1,13 +1,6 @@
 -- First the loop over the vertices of the base that are not in the next set takes their paths away, then that over the new vertices adds a path
 -- for each; in between the paths end at the common vertices.
-use Rattle.std.proofs.Common.{get_or, refl, arith, subst, sym, ◌∙◌}
-use Rattle.std.proofs.lemmas.Result.{IfOk-weaker}
-use Rattle.mat_flow.specs.LinkedEnds.{IsLinkedTo}
-use Rattle.mat_flow.specs.Reroutes.{AreReroutes}
-use Rattle.mat_sets.specs.Sets.{intersection}
-use Rattle.mat_sets.proofs.Members.{IsRising-intersection}
-use Rattle.mat_sets.proofs.Subsets.{intersection-right}
-use Rattle.mat_linked.specs.Gammoids.{set_of_vertices}
+use Rattle.mat_linked.proofs.Common.{get_or, refl, arith, subst, sym, ◌∙◌, IfOk-weaker, IsLinkedTo, AreReroutes, intersection, IsRising-intersection, intersection-right, set_of_vertices}
 use Rattle.mat_linked.proofs.GrownSets.{new_beside_common}
 use Rattle.mat_linked.proofs.FewerPaths.{vertex_is_end, AreFewerPaths-all, AreFewerPaths-more, AreFewerPaths-none}
 use Rattle.mat_linked.proofs.FewerPaths as fewer

@@ -1,4 +1,4 @@
-use Rattle.mat_sets.specs.Sets.{intersection}
+use Rattle.mat_linked.proofs.Common.{intersection}
 use Rattle.mat_linked.proofs.FewerPaths.{AreFewerPaths}
 use Rattle.mat_linked.proofs.MorePaths.{AreMorePaths}
 use Rattle.mat_linked.proofs.gammoid.keep_next_paths.Given as goal

@@ -1,13 +1,6 @@
 -- The run along an independent set takes all of it, so the table links all its members; the graph turned round belongs to it.
-use Rattle.std.proofs.Common.{[], ◌∙◌, length, subst, sym, ap}
-use Rattle.std.proofs.lemmas.Result.{IfOk-weaker}
-use Rattle.mat_sets.specs.Sets.{AllBelow, AreDistinct}
-use Rattle.mat_sets.proofs.Ground.{AreDistinct-rising}
-use Rattle.mat_flow.specs.LinkedEnds.{IsLinker}
-use Rattle.mat_laws.specs.GreedyRuns.{grown_along}
+use Rattle.mat_linked.proofs.Common.{[], ◌∙◌, length, subst, sym, ap, IfOk-weaker, AllBelow, AreDistinct, AreDistinct-rising, IsLinker, grown_along, gammoid_laws, is_gammoid, set_of_vertices}
 use Rattle.mat_laws.proofs.GreedyRunSets.{run_all}
-use Rattle.mat_linked.specs.GammoidLaws.{gammoid_laws}
-use Rattle.mat_linked.specs.Gammoids.{is_gammoid, set_of_vertices}
 use Rattle.mat_linked.proofs.gammoid.keep_paths.Goals as goal
 
 pub link_along-requires-clause-below : goal.link_along-requires-clause-below

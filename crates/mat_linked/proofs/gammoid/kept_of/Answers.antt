@@ -1,4 +1,4 @@
-use Rattle.mat_linked.specs.Gammoids.{set_of_vertices}
+use Rattle.mat_linked.proofs.Common.{set_of_vertices}
 use Rattle.mat_linked.proofs.gammoid.kept_of.Goals as goal
 
 pub returns : goal.returns

@@ -1,7 +1,4 @@
-use Rattle.std.proofs.Common.{◌≡◌, ◌∙◌, if◌then◌else◌, length, get_or, refl}
-use Rattle.mat_sets.specs.Sets.{with_one}
-use Rattle.mat_sets.proofs.Sums.{AllBelow-at}
-use Rattle.mat_linked.specs.Gammoids.{set_of_vertices}
+use Rattle.mat_linked.proofs.Common.{◌≡◌, ◌∙◌, if◌then◌else◌, length, get_or, refl, with_one, AllBelow-at, set_of_vertices}
 use Rattle.mat_linked.proofs.LinkedRuns.{vertex_is_new, IsLinkedRun-next, IsLinkedRun-start}
 use Rattle.mat_linked.proofs.gammoid.link_along.Goals as goal
 use Rattle.mat_linked.proofs.gammoid.link_along.Goals.{then-branch+in_ok-add, else-branch}

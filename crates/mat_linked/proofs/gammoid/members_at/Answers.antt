@@ -1,8 +1,4 @@
-use Rattle.std.proofs.Common.{◌∙◌, length, get_or, ap, sym}
-use Rattle.mat_sets.specs.Sets.{with_one}
-use Rattle.mat_sets.proofs.Filters.{filter-found, filter-passed, IsRising-found}
-use Rattle.mat_sets.proofs.Sums.{AllBelow-at}
-use Rattle.mat_linked.specs.KeptLinkings.{has_vertex_in}
+use Rattle.mat_linked.proofs.Common.{◌∙◌, length, get_or, ap, sym, with_one, filter-found, filter-passed, IsRising-found, AllBelow-at, has_vertex_in}
 use Rattle.mat_linked.proofs.gammoid.members_at.Goals as goal
 use Rattle.mat_linked.proofs.gammoid.members_at.Goals.{then-contains+in_ok-add, else-contains}
 

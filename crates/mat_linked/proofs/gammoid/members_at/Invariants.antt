@@ -1,6 +1,5 @@
-use Rattle.std.proofs.Common.{◌≡◌, take}
+use Rattle.mat_linked.proofs.Common.{◌≡◌, take, has_vertex_in}
 use Rattle.std.specs.List.{filter}
-use Rattle.mat_linked.specs.KeptLinkings.{has_vertex_in}
 use Rattle.mat_linked.proofs.gammoid.members_at.Given as goal
 
 -- those of the first elements are found

@@ -1,6 +1,4 @@
-use Rattle.std.proofs.Common.{◌∙◌, ap, filter}
-use Rattle.mat_linked.specs.Gammoids.{set_of_vertices}
-use Rattle.mat_linked.specs.KeptLinkings.{has_vertex_in}
+use Rattle.mat_linked.proofs.Common.{◌∙◌, ap, filter, set_of_vertices, has_vertex_in}
 use Rattle.mat_linked.proofs.LinkedRows.{row_addable, row_by_ways, vertex_outside}
 use Rattle.mat_linked.proofs.gammoid.row_by_paths.Goals as goal
 

@@ -1,8 +1,5 @@
-use Rattle.std.proofs.Common.{◌∙◌, ap, length, is_none, refl, subst, sym}
+use Rattle.mat_linked.proofs.Common.{◌∙◌, ap, length, is_none, refl, subst, sym, entry_at, LeadToFree, is_held}
 use Rattle.mat_flow.specs.Leading.{AreLeading}
-use Rattle.mat_flow.specs.LinkTables.{entry_at}
-use Rattle.mat_linked.specs.KeptMatchings.{LeadToFree}
-use Rattle.mat_linked.specs.Matchings.{is_held}
 use Rattle.mat_linked.proofs.kept_matching.kept_of.Goals as goal
 
 pub returns : goal.returns

@@ -1,8 +1,4 @@
-use Rattle.std.proofs.Common.{length, get_or, ap, ◌∙◌}
-use Rattle.mat_sets.specs.Sets.{is_member}
-use Rattle.mat_sets.proofs.Sums.{AllBelow-at}
-use Rattle.mat_flow.specs.LinkTables.{entry_at}
-use Rattle.mat_flow.proofs.LinkTables.{none_from}
+use Rattle.mat_linked.proofs.Common.{length, get_or, ap, ◌∙◌, is_member, AllBelow-at, entry_at, none_from}
 use Rattle.mat_linked.proofs.KeptRows.{matched_among-passed, matched_among-put}
 use Rattle.mat_linked.proofs.kept_matching.matched_among.Goals as goal
 use Rattle.mat_linked.proofs.kept_matching.matched_among.Goals.{in-Some+in_ok-insert, in_default}

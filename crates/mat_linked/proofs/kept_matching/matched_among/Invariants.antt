@@ -1,6 +1,4 @@
-use Rattle.std.proofs.Common.{◌≡◌, ℕ, take}
-use Rattle.mat_sets.specs.Sets.{is_member}
-use Rattle.mat_linked.specs.Matchings.{is_matched_among}
+use Rattle.mat_linked.proofs.Common.{◌≡◌, ℕ, take, is_member, is_matched_among}
 use Rattle.mat_linked.proofs.kept_matching.matched_among.Given as goal
 
 -- the elements of the first indices are found

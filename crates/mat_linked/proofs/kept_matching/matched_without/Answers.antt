@@ -1,7 +1,4 @@
-use Rattle.std.proofs.Common.{◌≡◌, ◌∙◌, ap, map, sym, subst, arith}
-use Rattle.std.proofs.lemmas.List.{take_all}
-use Rattle.mat_sets.specs.Sets.{minus}
-use Rattle.mat_linked.specs.Matchings.{entry_without, IsMatching}
+use Rattle.mat_linked.proofs.Common.{◌≡◌, ◌∙◌, ap, map, sym, subst, arith, take_all, minus, entry_without, IsMatching}
 use Rattle.mat_linked.proofs.NewMatches.{IsMatching-without}
 use Rattle.mat_linked.proofs.kept_matching.matched_without.Goals as goal
 

@@ -1,5 +1,4 @@
-use Rattle.std.proofs.Common.{◌≡◌, map, take}
-use Rattle.mat_linked.specs.Matchings.{entry_without}
+use Rattle.mat_linked.proofs.Common.{◌≡◌, map, take, entry_without}
 use Rattle.mat_linked.proofs.kept_matching.matched_without.Given as goal
 
 -- what is left at the first indices

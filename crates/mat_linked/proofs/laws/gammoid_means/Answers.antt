@@ -1,4 +1,4 @@
-use Rattle.mat_linked.specs.GammoidLaws.{is_gammoid-from, is_gammoid-gives}
+use Rattle.mat_linked.proofs.Common.{is_gammoid-from, is_gammoid-gives}
 use Rattle.mat_linked.proofs.laws.gammoid_means.Goals as goal
 
 pub returns : goal.returns

@@ -1,4 +1,4 @@
-use Rattle.mat_linked.specs.TransversalLaws.{is_transversal-from, is_transversal-gives}
+use Rattle.mat_linked.proofs.Common.{is_transversal-from, is_transversal-gives}
 use Rattle.mat_linked.proofs.laws.transversal_means.Goals as goal
 
 pub returns : goal.returns

@@ -1,7 +1,5 @@
 -- The elements so far are matched; a search that comes to no free set shows that the next one cannot be matched with them.
-use Rattle.std.proofs.Common.{◌≡◌, ◌∙◌, ap, length, arith, replicate, rules, None}
-use Rattle.std.proofs.lemmas.List.{length-replicate}
-use Rattle.mat_sets.proofs.Sums.{AllBelow-at}
+use Rattle.mat_linked.proofs.Common.{◌≡◌, ◌∙◌, ap, length, arith, replicate, rules, None, length-replicate, AllBelow-at}
 use Rattle.mat_linked.proofs.MatchableSets.{AreMatchedTo-start, all_matched, element_below, not_matched, AreMatchedTo-more}
 use Rattle.mat_linked.proofs.Searching.{IsReady-start}
 use Rattle.mat_linked.proofs.matching.are_matchable.Goals as goal

@@ -1,6 +1,5 @@
 -- A walk to a free set moves the matched elements along it; where the search finds none, the element cannot be matched beside them.
-use Rattle.std.proofs.Common.{◌≢◌, ◌<◌, ◌∙◌, ℕ, ap, get_or, length, subst, sym}
-use Rattle.mat_flow.specs.Seeking.{IsRoom}
+use Rattle.mat_linked.proofs.Common.{◌≢◌, ◌<◌, ◌∙◌, ℕ, ap, get_or, length, subst, sym, IsRoom}
 use Rattle.mat_linked.proofs.Searching.{matching_moves, shut_ends, shut_moves, stuck_ends}
 use Rattle.mat_linked.proofs.matching.match_one.Goals as goal
 

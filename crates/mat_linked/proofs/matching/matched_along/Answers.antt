@@ -1,8 +1,5 @@
 -- The set so far is matched; an element enters if it can be matched beside the members.
-use Rattle.std.proofs.Common.{◌≡◌, if◌then◌else◌, ap, length, get_or, replicate, None, refl, ◌∙◌, arith, rules}
-use Rattle.std.proofs.lemmas.List.{length-replicate}
-use Rattle.mat_sets.specs.Sets.{with_one}
-use Rattle.mat_sets.proofs.Sums.{AllBelow-at}
+use Rattle.mat_linked.proofs.Common.{◌≡◌, if◌then◌else◌, ap, length, get_or, replicate, None, refl, ◌∙◌, arith, rules, length-replicate, with_one, AllBelow-at}
 use Rattle.mat_linked.proofs.MatchableSets.{element_below}
 use Rattle.mat_linked.proofs.MatchingRuns.{IsMatchingRun-start, IsMatchingRun-end, IsMatchingRun-next}
 use Rattle.mat_linked.proofs.Searching.{IsReady-start}

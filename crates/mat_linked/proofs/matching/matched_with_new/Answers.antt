@@ -1,5 +1,5 @@
 -- The common members and the new ones so far are matched, since all of the next set can be matched.
-use Rattle.std.proofs.Common.{◌∙◌, get_or, refl, arith}
+use Rattle.mat_linked.proofs.Common.{◌∙◌, get_or, refl, arith}
 use Rattle.mat_linked.proofs.MatchableSets.{element_below}
 use Rattle.mat_linked.proofs.NewMatches.{new_below, AreMatchedBeside-all, AreMatchedBeside-more, AreMatchedBeside-none}
 use Rattle.mat_linked.proofs.Searching.{IsReady-start}

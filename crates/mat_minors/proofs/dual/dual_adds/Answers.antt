@@ -1,8 +1,5 @@
 -- An element outside the kept base can be added; one of the base can be added if its column has a member outside the set.
-use Rattle.std.proofs.Common.{not, inl, inr, refl, sym, ap, subst, ◌∙◌}
-use Rattle.std.proofs.lemmas.Bool.{both_ways, cases_Bool}
-use Rattle.mat_sets.specs.Sets.{IsRising}
-use Rattle.mat_laws.specs.declared.exchange.Exchange.{Exchange}
+use Rattle.mat_minors.proofs.Common.{not, inl, inr, refl, sym, ap, subst, ◌∙◌, both_ways, cases_Bool, IsRising, Exchange}
 use Rattle.mat_minors.proofs.DualExchanges.{kept_row-added, kept_row-exchanged, kept_row-outside}
 use Rattle.mat_minors.proofs.dual.dual_adds.Goals as goal
 

@@ -1,5 +1,4 @@
-use Rattle.std.proofs.Common.{sym, ◌∙◌}
-use Rattle.std.proofs.lemmas.Bool.{both_ways}
+use Rattle.mat_minors.proofs.Common.{sym, ◌∙◌, both_ways}
 use Rattle.mat_minors.proofs.DualExchanges.{kept_row-exchanged, kept_row-outside, kept_row-added}
 use Rattle.mat_minors.proofs.dual.dual_row.Goals as goal
 use Rattle.mat_minors.proofs.dual.dual_row.Goals.{then-contains+else-is_subset, else-contains}

@@ -1,4 +1,4 @@
-use Rattle.std.proofs.Common.{sym, ◌∙◌}
+use Rattle.mat_minors.proofs.Common.{sym, ◌∙◌}
 use Rattle.mat_minors.proofs.DualNext.{base_meets, base_serves}
 use Rattle.mat_minors.proofs.dual.same_base.Goals as goal
 

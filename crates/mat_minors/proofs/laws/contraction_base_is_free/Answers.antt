@@ -1,4 +1,4 @@
-use Rattle.mat_minors.specs.ContractionLaws.{same_joined}
+use Rattle.mat_minors.proofs.Common.{same_joined}
 use Rattle.mat_minors.proofs.laws.contraction_base_is_free.Goals as goal
 
 pub returns : goal.returns

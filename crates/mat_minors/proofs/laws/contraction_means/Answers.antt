@@ -1,4 +1,4 @@
-use Rattle.mat_minors.specs.ContractionLaws.{contraction-gives, contraction-from}
+use Rattle.mat_minors.proofs.Common.{contraction-gives, contraction-from}
 use Rattle.mat_minors.proofs.laws.contraction_means.Goals as goal
 
 pub returns : goal.returns

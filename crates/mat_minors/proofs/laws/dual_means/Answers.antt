@@ -1,4 +1,4 @@
-use Rattle.mat_minors.specs.DualLaws.{dual-gives, dual-from}
+use Rattle.mat_minors.proofs.Common.{dual-gives, dual-from}
 use Rattle.mat_minors.proofs.laws.dual_means.Goals as goal
 
 pub returns : goal.returns

@@ -1,7 +1,4 @@
-use Rattle.std.proofs.Common.{eqb, length}
-use Rattle.std.proofs.lemmas.Bool.{and_parts, and_from}
-use Rattle.mat_sets.specs.Sets.{minus}
-use Rattle.mat_sets.proofs.DisjointSets.{inside_test, inside_test_from}
+use Rattle.mat_minors.proofs.Common.{eqb, length, and_parts, and_from, minus, inside_test, inside_test_from}
 use Rattle.mat_minors.proofs.laws.restriction_means.Goals as goal
 
 pub returns : goal.returns

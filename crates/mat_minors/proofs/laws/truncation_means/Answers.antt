@@ -1,5 +1,4 @@
-use Rattle.std.proofs.Common.{leb, length}
-use Rattle.std.proofs.lemmas.Bool.{and_parts, and_from, leb-true, le-leb}
+use Rattle.mat_minors.proofs.Common.{leb, length, and_parts, and_from, leb-true, le-leb}
 use Rattle.mat_minors.proofs.laws.truncation_means.Goals as goal
 
 pub returns : goal.returns

@@ -1,5 +1,4 @@
-use Rattle.std.proofs.Common.{◌<◌, ◌≤◌, length, get_or, if◌then◌else◌, refl, sym, ap, ◌∙◌, arith}
-use Rattle.mat_sets.specs.Sets.{with_one}
+use Rattle.mat_minors.proofs.Common.{◌<◌, ◌≤◌, length, get_or, if◌then◌else◌, refl, sym, ap, ◌∙◌, arith, with_one}
 use Rattle.mat_minors.proofs.MinorRuns.{IsCapped-start, IsCapped-next, IsCapped-full, IsCapped-end}
 use Rattle.mat_minors.proofs.run_orders.first_taken.Goals as goal
 use Rattle.mat_minors.proofs.run_orders.first_taken.Goals.{then-contains+in_ok-add, else-contains}

@@ -1,7 +1,4 @@
-use Rattle.std.proofs.Common.{◌≡◌, ℕ, List, Bool, []}
-use Rattle.mat_sets.specs.Sets.{AreDistinct}
-use Rattle.mat_laws.specs.GreedyRuns.{grown_along}
-use Rattle.mat_laws.specs.Matroids.{IsMatroid}
+use Rattle.mat_minors.proofs.Common.{◌≡◌, ℕ, List, Bool, [], AreDistinct, grown_along, IsMatroid}
 use Rattle.mat_minors.proofs.MinorRuns.{IsCapped}
 use Rattle.mat_minors.proofs.run_orders.first_taken.Given as goal
 

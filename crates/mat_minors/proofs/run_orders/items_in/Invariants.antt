@@ -1,6 +1,5 @@
-use Rattle.std.proofs.Common.{◌≡◌, take}
+use Rattle.mat_minors.proofs.Common.{◌≡◌, take, is_member}
 use Rattle.std.specs.List.{filter}
-use Rattle.mat_sets.specs.Sets.{is_member}
 use Rattle.mat_minors.proofs.run_orders.items_in.Given as goal
 
 abbrev pub invariant-loop-x : goal.invariant-loop-x

@@ -1,12 +1,6 @@
 -- Without a loop each part of the elements has a rank, so a cut tells how many sets it needs; while the sets leave an element out, the cut is larger
 -- than what they hold of it and needs more sets.
-use Rattle.std.proofs.Common.{◌∙◌, ◌-◌, ◌<◌, ap, arith, length, subst, sym}
-use Rattle.std.specs.Prelude.{MatchOption}
-use Rattle.mat_sets.specs.Sets.{IsSet}
-use Rattle.mat_sets.proofs.Ground.{length-all_below, IsSet-length}
-use Rattle.mat_laws.specs.Matroids.{IsLoop}
-use Rattle.mat_laws.specs.Ranks.{rank}
-use Rattle.mat_packing.specs.Answers.{HasNoLoop}
+use Rattle.mat_packing.proofs.Common.{◌∙◌, ◌-◌, ◌<◌, ap, arith, length, subst, sym, MatchOption, IsSet, length-all_below, IsSet-length, IsLoop, rank, HasNoLoop}
 use Rattle.mat_packing.proofs.CoverCounts.{cut_long, more_needed, needed_at_most, right_covering, some_rank}
 use Rattle.mat_packing.proofs.covering.cover.Goals as goal
 

@@ -1,7 +1,4 @@
-use Rattle.std.proofs.Common.{◌-◌, ◌*◌, ◌<◌, ◌≤◌, length}
-use Rattle.mat_sets.specs.Sets.{IsSet}
-use Rattle.mat_laws.specs.Ranks.{rank}
-use Rattle.mat_packing.specs.FilledCopies.{AreFilledCopies}
+use Rattle.mat_packing.proofs.Common.{◌-◌, ◌*◌, ◌<◌, ◌≤◌, length, IsSet, rank, AreFilledCopies}
 use Rattle.mat_packing.proofs.covering.cover.Given as goal
 
 abbrev pub invariant-loop-filled : goal.invariant-loop-filled

@@ -1,5 +1,4 @@
-use Rattle.std.proofs.Common.{◌∙◌, ◌<◌, [], ◌∷◌, ap, arith, inl, inr, subst, sym}
-use Rattle.std.proofs.lemmas.Bool.{cases_eq, not-false, not-true}
+use Rattle.mat_packing.proofs.Common.{◌∙◌, ◌<◌, [], ◌∷◌, ap, arith, inl, inr, subst, sym, cases_eq, not-false, not-true}
 use Rattle.mat_packing.proofs.covering.find_loop.Goals as goal
 
 pub loop-x-preserved : goal.loop-x-preserved

@@ -1,4 +1,4 @@
-use Rattle.std.proofs.Common.{◌≡◌, ◌<◌, ℕ, true, [], ◌∷◌}
+use Rattle.mat_packing.proofs.Common.{◌≡◌, ◌<◌, ℕ, true, [], ◌∷◌}
 use Rattle.mat_packing.proofs.covering.find_loop.Given as goal
 
 abbrev pub invariant-loop-x : goal.invariant-loop-x

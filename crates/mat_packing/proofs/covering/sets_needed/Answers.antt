@@ -1,7 +1,4 @@
-use Rattle.std.proofs.Common.{◌≡◌, ◌+◌, ◌-◌, ◌/◌, ◌<◌, ℕ, arith, length, sym}
-use Rattle.mat_sets.proofs.Ground.{IsSet-length}
-use Rattle.mat_laws.specs.Ranks.{rank}
-use Rattle.mat_packing.specs.Rooms.{IsEnough}
+use Rattle.mat_packing.proofs.Common.{◌≡◌, ◌+◌, ◌-◌, ◌/◌, ◌<◌, ℕ, arith, length, sym, IsSet-length, rank, IsEnough}
 use Rattle.mat_packing.proofs.CoverCounts.{enough_of, some_rank}
 use Rattle.mat_packing.proofs.covering.sets_needed.Goals as goal
 

@@ -1,6 +1,4 @@
-use Rattle.std.proofs.Common.{◌∙◌, ap, arith, inl, inr, length, sym}
-use Rattle.std.proofs.lemmas.Bool.{cases_eq}
-use Rattle.mat_union.specs.Unions.{part_at}
+use Rattle.mat_packing.proofs.Common.{◌∙◌, ap, arith, inl, inr, length, sym, cases_eq, part_at}
 use Rattle.mat_packing.proofs.filling.are_full.Goals as goal
 
 pub loop-i-preserved : goal.loop-i-preserved

@@ -1,5 +1,4 @@
-use Rattle.std.proofs.Common.{◌≡◌, ◌<◌, ℕ, length}
-use Rattle.mat_union.specs.Unions.{part_at}
+use Rattle.mat_packing.proofs.Common.{◌≡◌, ◌<◌, ℕ, length, part_at}
 use Rattle.mat_packing.proofs.filling.are_full.Given as goal
 
 abbrev pub invariant-loop-i : goal.invariant-loop-i

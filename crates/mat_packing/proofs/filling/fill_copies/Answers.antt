@@ -1,7 +1,5 @@
-use Rattle.std.proofs.Common.{◌≡◌, ◌∙◌, All, length, map, ap, arith, subst, sym}
+use Rattle.mat_packing.proofs.Common.{◌≡◌, ◌∙◌, All, length, map, ap, arith, subst, sym, all_below, IsFilled}
 use Rattle.std.proofs.lemmas.Result.{IfOk-weaker}
-use Rattle.mat_sets.specs.Sets.{all_below}
-use Rattle.mat_union.specs.FilledParts.{IsFilled}
 use Rattle.mat_packing.proofs.CopyLists.{common, copies_filled, joined, no_copies, start_parts}
 use Rattle.mat_packing.proofs.filling.fill_copies.Goals as goal
 

@@ -1,7 +1,4 @@
-use Rattle.std.proofs.Common.{◌∙◌, ◌<◌, ap, arith, length, subst, sym}
-use Rattle.mat_sets.specs.Families.{AreDisjoint}
-use Rattle.mat_sets.specs.Sets.{all_below, union, IsSubset}
-use Rattle.mat_union.specs.Unions.{part_at}
+use Rattle.mat_packing.proofs.Common.{◌∙◌, ◌<◌, ap, arith, length, subst, sym, AreDisjoint, all_below, union, IsSubset, part_at}
 use Rattle.mat_packing.proofs.FirstSets.{first_more, first_none}
 use Rattle.mat_packing.proofs.filling.first_sets.Goals as goal
 

@@ -1,5 +1,4 @@
-use Rattle.std.proofs.Common.{◌≡◌, ◌∙◌, zero, suc, All, [], ◌∷◌, length, length-append, ap, arith, subst, sym, refl}
-use Rattle.std.proofs.lemmas.List.Elements.{All-append}
+use Rattle.mat_packing.proofs.Common.{◌≡◌, ◌∙◌, zero, suc, All, [], ◌∷◌, length, length-append, ap, arith, subst, sym, refl, All-append}
 use Rattle.mat_packing.proofs.filling.references.Goals as goal
 
 pub loop-init : goal.loop-init

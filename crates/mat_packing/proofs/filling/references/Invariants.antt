@@ -1,4 +1,4 @@
-use Rattle.std.proofs.Common.{◌≡◌, length, All}
+use Rattle.mat_packing.proofs.Common.{◌≡◌, length, All}
 use Rattle.mat_packing.proofs.filling.references.Given as goal
 
 abbrev pub invariant-loop : goal.invariant-loop

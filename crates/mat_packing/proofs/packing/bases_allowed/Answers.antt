@@ -1,8 +1,4 @@
-use Rattle.std.proofs.Common.{◌≡◌, ◌-◌, ◌/◌, ◌<◌, ℕ, arith, length}
-use Rattle.mat_sets.specs.Sets.{all_below, minus}
-use Rattle.mat_sets.proofs.Ground.{length-complement, IsSet-length}
-use Rattle.mat_laws.specs.Ranks.{rank}
-use Rattle.mat_packing.specs.Rooms.{IsRoom}
+use Rattle.mat_packing.proofs.Common.{◌≡◌, ◌-◌, ◌/◌, ◌<◌, ℕ, arith, length, all_below, minus, length-complement, IsSet-length, rank, IsRoom}
 use Rattle.mat_packing.proofs.BaseCounts.{room_of}
 use Rattle.mat_packing.proofs.packing.bases_allowed.Goals as goal
 

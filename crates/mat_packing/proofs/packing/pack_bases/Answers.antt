@@ -1,11 +1,6 @@
 -- While the copies are not all filled to bases, their cut allows fewer bases than were tried for; so the number falls until all are full, and the last
 -- cut shows that there is no base more.
-use Rattle.std.proofs.Common.{◌≡◌, ◌∙◌, ◌-◌, ◌/◌, ap, arith, length, subst, sym}
-use Rattle.mat_sets.specs.Sets.{all_below, minus}
-use Rattle.mat_sets.proofs.Ground.{IsSet-nil}
-use Rattle.mat_sets.specs.Sets.{IsSet}
-use Rattle.mat_laws.specs.Ranks.{rank}
-use Rattle.mat_packing.specs.Rooms.{IsRoom}
+use Rattle.mat_packing.proofs.Common.{◌≡◌, ◌∙◌, ◌-◌, ◌/◌, ap, arith, length, subst, sym, all_below, minus, IsSet-nil, IsSet, rank, IsRoom}
 use Rattle.mat_packing.proofs.BaseCounts.{cut_short, fewer_rooms, first_room, right_packing}
 use Rattle.mat_packing.proofs.packing.pack_bases.Goals as goal
 

@@ -1,7 +1,4 @@
-use Rattle.std.proofs.Common.{◌+◌, ◌-◌, ◌*◌, ◌<◌, length}
-use Rattle.mat_sets.specs.Sets.{all_below, minus, IsSet}
-use Rattle.mat_laws.specs.Ranks.{rank}
-use Rattle.mat_packing.specs.FilledCopies.{AreFilledCopies}
+use Rattle.mat_packing.proofs.Common.{◌+◌, ◌-◌, ◌*◌, ◌<◌, length, all_below, minus, IsSet, rank, AreFilledCopies}
 use Rattle.mat_packing.proofs.packing.pack_bases.Given as goal
 
 abbrev pub invariant-loop-alloc : goal.invariant-loop-alloc

@@ -1,8 +1,5 @@
-use Rattle.std.proofs.Common.{◌≡◌, ◌∙◌, ap, get_or, length, map, subst}
-use Rattle.mat_sets.specs.Graphs.{ends_of}
-use Rattle.mat_graphic.specs.Forests.{class_of, is_graphic, roots_of}
+use Rattle.mat_packing.proofs.Common.{◌≡◌, ◌∙◌, ap, get_or, length, map, subst, ends_of, class_of, is_graphic, roots_of, AreFilledCopies}
 use Rattle.mat_graphic.specs.declared.graphic.Graphic.{Graphic}
-use Rattle.mat_packing.specs.FilledCopies.{AreFilledCopies}
 use Rattle.mat_packing.specs.declared.trees.Trees.TheVariants.{Trees, Partition}
 use Rattle.mat_packing.proofs.ComponentClasses.{no_trees_told, partition_told, right_trees}
 use Rattle.mat_packing.proofs.trees.pack_trees.Goals as goal

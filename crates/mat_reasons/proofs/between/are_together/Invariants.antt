@@ -1,6 +1,5 @@
 -- None of the classes so far holds both.
-use Rattle.std.proofs.Common.{◌≡◌, false, take}
-use Rattle.mat_reasons.specs.Classes.{are_together}
+use Rattle.mat_reasons.proofs.Common.{◌≡◌, false, take, are_together}
 use Rattle.mat_reasons.proofs.between.are_together.Given as goal
 
 abbrev pub invariant-loop-i : goal.invariant-loop-i

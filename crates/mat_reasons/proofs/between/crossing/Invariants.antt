@@ -1,8 +1,5 @@
 -- The edges so far whose ends are in different classes.
-use Rattle.std.proofs.Common.{◌≡◌, not}
-use Rattle.mat_sets.specs.Graphs.{ends_of}
-use Rattle.mat_sets.specs.Search.{those_below}
-use Rattle.mat_reasons.specs.Classes.{are_together}
+use Rattle.mat_reasons.proofs.Common.{◌≡◌, not, ends_of, those_below, are_together}
 use Rattle.mat_reasons.proofs.between.crossing.Given as goal
 
 abbrev pub invariant-loop-e : goal.invariant-loop-e

@@ -1,7 +1,5 @@
 -- The arcs so far that enter the set.
-use Rattle.std.proofs.Common.{◌≡◌}
-use Rattle.mat_sets.specs.Graphs.{ends_of, enters}
-use Rattle.mat_sets.specs.Search.{those_below}
+use Rattle.mat_reasons.proofs.Common.{◌≡◌, ends_of, enters, those_below}
 use Rattle.mat_reasons.proofs.between.entering.Given as goal
 
 abbrev pub invariant-loop-e : goal.invariant-loop-e

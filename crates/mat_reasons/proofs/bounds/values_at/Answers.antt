@@ -1,7 +1,4 @@
-use Rattle.std.proofs.Common.{◌≡◌, ◌<◌, ◌++◌, [], ◌∷◌, length, get_or, rules, arith, sym, ap, ◌∙◌}
-use Rattle.std.proofs.lemmas.List.{map_more}
-use Rattle.mat_sets.specs.Weights.{zero_weight, weight_at}
-use Rattle.mat_sets.specs.declared.weight.Weight.{Weight}
+use Rattle.mat_reasons.proofs.Common.{◌≡◌, ◌<◌, ◌++◌, [], ◌∷◌, length, get_or, rules, arith, sym, ap, ◌∙◌, map_more, zero_weight, weight_at, Weight}
 use Rattle.mat_reasons.proofs.bounds.values_at.Goals as goal
 
 pub loop-e-preserved : goal.loop-e-preserved

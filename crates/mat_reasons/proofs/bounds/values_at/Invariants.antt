@@ -1,6 +1,5 @@
 -- The weights of the members so far.
-use Rattle.std.proofs.Common.{◌≡◌, map, take}
-use Rattle.mat_sets.specs.Weights.{weight_at}
+use Rattle.mat_reasons.proofs.Common.{◌≡◌, map, take, weight_at}
 use Rattle.mat_reasons.proofs.bounds.values_at.Given as goal
 
 abbrev pub invariant-loop-e : goal.invariant-loop-e

@@ -1,8 +1,4 @@
-use Rattle.std.proofs.Common.{◌≡◌, ◌∙◌, ℕ, ◌<◌, List, not, length, get_or, map, sym, ap, subst}
-use Rattle.std.specs.Prelude.{All}
-use Rattle.mat_sets.specs.Graphs.{ends_of}
-use Rattle.mat_sets.specs.Search.{those_below}
-use Rattle.mat_sets.specs.Sets.{is_member, AllBelow}
+use Rattle.mat_reasons.proofs.Common.{◌≡◌, ◌∙◌, ℕ, ◌<◌, List, not, length, get_or, map, sym, ap, subst, All, ends_of, those_below, is_member, AllBelow}
 use Rattle.mat_sets.proofs.Search.{IsSet-those_below}
 use Rattle.mat_graphic.specs.Forests.{class_of, components_of, roots_of, IsLeastReached}
 use Rattle.mat_graphic.proofs.ComponentSets.{components-by_table, components_of-below}

@@ -1,6 +1,4 @@
-use Rattle.std.proofs.Common.{sym, subst}
-use Rattle.mat_sets.specs.Sets.{AllBelow, IsSet}
-use Rattle.mat_sets.proofs.Ground.{IsSet-minus}
+use Rattle.mat_reasons.proofs.Common.{sym, subst, AllBelow, IsSet, IsSet-minus}
 use Rattle.mat_reasons.proofs.cuts.all_but.Goals as goal
 
 pub returns : goal.returns

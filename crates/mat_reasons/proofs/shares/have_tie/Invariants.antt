@@ -1,7 +1,6 @@
 -- None of the weights so far has a tie.
-use Rattle.std.proofs.Common.{◌≡◌, false, take}
+use Rattle.mat_reasons.proofs.Common.{◌≡◌, false, take, has_tie}
 use Rattle.std.specs.List.{list_any}
-use Rattle.mat_reasons.specs.Sums.{has_tie}
 use Rattle.mat_reasons.proofs.shares.have_tie.Given as goal
 
 abbrev pub invariant-loop-i : goal.invariant-loop-i

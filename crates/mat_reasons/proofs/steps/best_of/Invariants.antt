@@ -1,7 +1,5 @@
 -- The best step so far is the first of the heaviest of them.
-use Rattle.std.proofs.Common.{◌<◌, length, map}
-use Rattle.mat_sets.specs.Weights.{weight_at}
-use Rattle.mat_reasons.specs.FirstHeaviest.{IsFirstHeaviest}
+use Rattle.mat_reasons.proofs.Common.{◌<◌, length, map, weight_at, IsFirstHeaviest}
 use Rattle.mat_reasons.proofs.steps.best_of.Given as goal
 
 abbrev pub invariant-loop-k : goal.invariant-loop-k

@@ -1,5 +1,5 @@
 -- Each rung so far has its step.
-use Rattle.std.proofs.Common.{◌≡◌, None, map, take}
+use Rattle.mat_reasons.proofs.Common.{◌≡◌, None, map, take}
 use Rattle.mat_reasons.proofs.steps.plain_steps.Given as goal
 
 abbrev pub invariant-loop-rung : goal.invariant-loop-rung

@@ -1,5 +1,5 @@
 -- Each rung so far has its step.
-use Rattle.std.proofs.Common.{◌≡◌, length, map, take}
+use Rattle.mat_reasons.proofs.Common.{◌≡◌, length, map, take}
 use Rattle.mat_reasons.proofs.steps.priced_steps.Given as goal
 
 abbrev pub invariant-loop-k : goal.invariant-loop-k

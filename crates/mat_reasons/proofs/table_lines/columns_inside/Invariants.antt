@@ -1,7 +1,5 @@
 -- The columns of the cells so far in the set.
-use Rattle.mat_sets.specs.Graphs.{ends_of}
-use Rattle.mat_sets.specs.Sets.{is_member}
-use Rattle.mat_sets.proofs.Values.{AreValuesBelow}
+use Rattle.mat_reasons.proofs.Common.{ends_of, is_member, AreValuesBelow}
 use Rattle.mat_reasons.proofs.table_lines.columns_inside.Given as goal
 
 abbrev pub invariant-loop-e : goal.invariant-loop-e

@@ -1,7 +1,4 @@
-use Rattle.std.proofs.Common.{◌≡◌, ◌∙◌, ℕ, not, length, ap, subst, sym, arith}
-use Rattle.mat_sets.specs.Graphs.{ends_of}
-use Rattle.mat_sets.specs.Sets.{is_member, with_one}
-use Rattle.mat_sets.proofs.Values.{AreValuesBelow, AreValuesBelow-put, AreValuesBelow-skip, AreValuesBelow-start}
+use Rattle.mat_reasons.proofs.Common.{◌≡◌, ◌∙◌, ℕ, not, length, ap, subst, sym, arith, ends_of, is_member, with_one, AreValuesBelow, AreValuesBelow-put, AreValuesBelow-skip, AreValuesBelow-start}
 use Rattle.mat_reasons.proofs.table_lines.rows_outside.Goals as goal
 use Rattle.mat_reasons.proofs.table_lines.rows_outside.Goals.{then-not-contains+in_ok-add, else-not-contains}
 

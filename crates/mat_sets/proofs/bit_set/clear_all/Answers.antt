@@ -1,5 +1,4 @@
-use Rattle.std.proofs.Common.{arith, refl, ◌∙◌}
-use Rattle.std.proofs.lemmas.List.{length-set}
+use Rattle.mat_sets.proofs.Common.{arith, refl, ◌∙◌, length-set}
 use Rattle.mat_sets.proofs.Bits.{changed_none, changed_next, cleared_all, without_bits}
 use Rattle.mat_sets.proofs.bit_set.clear_all.Goals as goal
 

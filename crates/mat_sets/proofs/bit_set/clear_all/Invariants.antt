@@ -1,4 +1,4 @@
-use Rattle.std.proofs.Common.{◌≡◌, length}
+use Rattle.mat_sets.proofs.Common.{◌≡◌, length}
 use Rattle.mat_sets.proofs.Bits.{AreCleared}
 use Rattle.mat_sets.proofs.bit_set.clear_all.Given as goal
 

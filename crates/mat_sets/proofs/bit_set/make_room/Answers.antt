@@ -1,5 +1,4 @@
-use Rattle.std.proofs.Common.{arith, take, ◌≡◌}
-use Rattle.std.proofs.lemmas.List.{take_all}
+use Rattle.mat_sets.proofs.Common.{arith, take, ◌≡◌, take_all}
 use Rattle.mat_sets.proofs.Bits.{bits_of-longer}
 use Rattle.mat_sets.proofs.bit_set.make_room.Goals as goal
 

@@ -1,4 +1,4 @@
-use Rattle.std.proofs.Common.{sym, subst, arith, rules}
+use Rattle.mat_sets.proofs.Common.{sym, subst, arith, rules}
 use Rattle.mat_sets.proofs.BitMembers.{cleared, AreBitsPushed, AreBitsPushed-none, AreBitsPushed-more, AreBitsPushed-all, cleared-less}
 use Rattle.mat_sets.proofs.bit_set.push_bits.Goals as goal
 

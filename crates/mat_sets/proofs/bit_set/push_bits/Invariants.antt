@@ -1,5 +1,4 @@
-use Rattle.std.proofs.Common.{ℕ, List}
-use Rattle.mat_sets.specs.Bits.{AreMembersBelow, IsWordOf}
+use Rattle.mat_sets.proofs.Common.{ℕ, List, AreMembersBelow, IsWordOf}
 use Rattle.mat_sets.proofs.BitMembers.{AreBitsPushed}
 use Rattle.mat_sets.proofs.bit_set.push_bits.Given as goal
 

@@ -1,5 +1,4 @@
-use Rattle.std.proofs.Common.{arith, bit_or, refl, ◌∙◌}
-use Rattle.std.proofs.lemmas.List.{length-set}
+use Rattle.mat_sets.proofs.Common.{arith, bit_or, refl, ◌∙◌, length-set}
 use Rattle.mat_sets.proofs.Bits.{changed_none, changed_next, united_all}
 use Rattle.mat_sets.proofs.bit_set.set_all.Goals as goal
 

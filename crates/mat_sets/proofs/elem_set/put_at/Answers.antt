@@ -1,4 +1,4 @@
-use Rattle.std.proofs.Common.{◌≡◌, length, insert, vec_len, sym, ap, ◌∙◌, arith, rules}
+use Rattle.mat_sets.proofs.Common.{◌≡◌, length, insert, vec_len, sym, ap, ◌∙◌, arith, rules}
 use Rattle.std.proofs.lemmas.List.Edits.{insert_end}
 use Rattle.mat_sets.proofs.elem_set.put_at.Goals as goal
 

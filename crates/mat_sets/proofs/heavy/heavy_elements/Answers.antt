@@ -1,6 +1,4 @@
-use Rattle.std.proofs.Common.{◌∙◌, cond, not, ap}
-use Rattle.mat_sets.specs.Sets.{with_one}
-use Rattle.mat_sets.specs.Weights.{is_below, weight_at}
+use Rattle.mat_sets.proofs.Common.{◌∙◌, cond, not, ap, with_one, is_below, weight_at}
 use Rattle.mat_sets.proofs.Rounds.{those_below-more, those_below-none}
 use Rattle.mat_sets.proofs.heavy.heavy_elements.Goals as goal
 

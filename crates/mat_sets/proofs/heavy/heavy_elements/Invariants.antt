@@ -1,7 +1,5 @@
 -- The elements so far that weigh at least as much are in the set.
-use Rattle.std.proofs.Common.{◌≡◌, not}
-use Rattle.mat_sets.specs.Search.{those_below}
-use Rattle.mat_sets.specs.Weights.{is_below, weight_at}
+use Rattle.mat_sets.proofs.Common.{◌≡◌, not, those_below, is_below, weight_at}
 use Rattle.mat_sets.proofs.heavy.heavy_elements.Given as goal
 
 abbrev pub invariant-loop-x : goal.invariant-loop-x

@@ -1,7 +1,4 @@
-use Rattle.std.proofs.Common.{arith}
-use Rattle.std.proofs.lemmas.Int.{ints}
-use Rattle.mat_sets.specs.declared.weight.Weight.{Weight}
-use Rattle.mat_sets.specs.Weights.{◌⊕◌, ◌≼◌}
+use Rattle.mat_sets.proofs.Common.{arith, ints, Weight, ◌⊕◌, ◌≼◌}
 use Rattle.mat_sets.proofs.WeightOrder.{at_most_or_below, at_most_both, at_most_trans}
 use Rattle.mat_sets.proofs.laws.weights_are_an_ordered_group.Goals as goal
 

@@ -1,4 +1,4 @@
-use Rattle.std.proofs.Common.{arith, sym, ◌∙◌, refl}
+use Rattle.mat_sets.proofs.Common.{arith, sym, ◌∙◌, refl}
 use Rattle.mat_sets.proofs.Members.{is_member-get_or}
 use Rattle.mat_sets.proofs.Rounds.{none_more}
 use Rattle.mat_sets.proofs.level_search.goal_among.Goals as goal

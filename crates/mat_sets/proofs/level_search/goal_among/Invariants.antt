@@ -1,5 +1,4 @@
-use Rattle.std.proofs.Common.{◌≡◌, ℕ, false, true, take}
-use Rattle.mat_sets.specs.Sets.{is_member}
+use Rattle.mat_sets.proofs.Common.{◌≡◌, ℕ, false, true, take, is_member}
 use Rattle.mat_sets.proofs.level_search.goal_among.Given as goal
 
 abbrev pub invariant-loop-v : goal.invariant-loop-v

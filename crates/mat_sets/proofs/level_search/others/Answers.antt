@@ -1,5 +1,4 @@
-use Rattle.std.proofs.Common.{sym, ap, not, ◌∙◌}
-use Rattle.mat_sets.specs.Sets.{is_member, with_one}
+use Rattle.mat_sets.proofs.Common.{sym, ap, not, ◌∙◌, is_member, with_one}
 use Rattle.mat_sets.proofs.Rounds.{those_below-none, those_below-put, those_below-skip}
 use Rattle.mat_sets.proofs.level_search.others.Goals as goal
 use Rattle.mat_sets.proofs.level_search.others.Goals.{then-not-contains+in_ok-add, else-not-contains}

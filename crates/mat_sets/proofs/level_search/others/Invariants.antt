@@ -1,6 +1,4 @@
-use Rattle.std.proofs.Common.{◌≡◌, not}
-use Rattle.mat_sets.specs.Search.{those_below}
-use Rattle.mat_sets.specs.Sets.{is_member}
+use Rattle.mat_sets.proofs.Common.{◌≡◌, not, those_below, is_member}
 use Rattle.mat_sets.proofs.level_search.others.Given as goal
 
 abbrev pub invariant-loop-v : goal.invariant-loop-v

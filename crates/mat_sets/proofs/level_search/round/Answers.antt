@@ -1,5 +1,4 @@
-use Rattle.std.proofs.Common.{arith, ◌∙◌, refl}
-use Rattle.std.proofs.lemmas.List.{take_more}
+use Rattle.mat_sets.proofs.Common.{arith, ◌∙◌, refl, take_more}
 use Rattle.mat_sets.proofs.Members.{is_member-get_or}
 use Rattle.mat_sets.proofs.Rounds.{IsRound-more, IsRound-rest}
 use Rattle.mat_sets.proofs.level_search.round.Goals as goal

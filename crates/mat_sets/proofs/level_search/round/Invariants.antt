@@ -1,5 +1,4 @@
-use Rattle.std.proofs.Common.{take}
-use Rattle.mat_sets.specs.Rounds.{IsRound}
+use Rattle.mat_sets.proofs.Common.{take, IsRound}
 use Rattle.mat_sets.proofs.level_search.round.Given as goal
 
 abbrev pub invariant-loop-u : goal.invariant-loop-u

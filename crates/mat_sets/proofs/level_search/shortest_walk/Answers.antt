@@ -1,7 +1,5 @@
 -- Each round finds the next level; a goal on it gives a walk of fewest vertices, and an empty level shows that all reached vertices are found.
-use Rattle.std.proofs.Common.{arith, rules, sym, ap, not, replicate, length, ◌&&◌, ◌∙◌, ◌≡◌, ltb}
-use Rattle.std.proofs.lemmas.Bool.{both_ways, eq-eqb, eqb-true}
-use Rattle.mat_sets.specs.Sets.{all_below, is_member}
+use Rattle.mat_sets.proofs.Common.{arith, rules, sym, ap, not, replicate, length, ◌&&◌, ◌∙◌, ◌≡◌, ltb, both_ways, eq-eqb, eqb-true, all_below, is_member}
 use Rattle.mat_sets.proofs.LevelSearch.{fewer_unreached, search_end, search_found, search_round, search_start, some_member}
 use Rattle.mat_sets.proofs.level_search.shortest_walk.Goals as goal
 

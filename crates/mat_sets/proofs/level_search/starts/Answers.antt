@@ -1,5 +1,4 @@
-use Rattle.std.proofs.Common.{ap, not, sym, ◌&&◌, ◌∙◌}
-use Rattle.mat_sets.specs.Sets.{is_member}
+use Rattle.mat_sets.proofs.Common.{ap, not, sym, ◌&&◌, ◌∙◌, is_member}
 use Rattle.mat_sets.proofs.Rounds.{starts_cut, starts_put, starts_skip}
 use Rattle.mat_sets.proofs.level_search.starts.Goals as goal
 use Rattle.mat_sets.proofs.level_search.starts.Goals.{then-is_start+in_ok-push, else-is_start}

@@ -1,5 +1,4 @@
-use Rattle.std.proofs.Common.{◌≡◌, ◌&&◌, not, ltb, ℕ}
-use Rattle.mat_sets.specs.Sets.{is_member}
+use Rattle.mat_sets.proofs.Common.{◌≡◌, ◌&&◌, not, ltb, ℕ, is_member}
 use Rattle.mat_sets.proofs.level_search.starts.Given as goal
 
 abbrev pub invariant-loop-v : goal.invariant-loop-v

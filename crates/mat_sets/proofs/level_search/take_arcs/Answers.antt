@@ -1,5 +1,4 @@
-use Rattle.std.proofs.Common.{arith, ◌∙◌, ◌≡◌, ◌<◌, length}
-use Rattle.std.proofs.lemmas.Bool.{and_parts}
+use Rattle.mat_sets.proofs.Common.{arith, ◌∙◌, ◌≡◌, ◌<◌, length, and_parts}
 use Rattle.mat_sets.proofs.Rounds.{AreTaken-more, AreTaken-rest}
 use Rattle.mat_sets.proofs.level_search.take_arcs.Goals as goal
 

@@ -1,5 +1,4 @@
-use Rattle.std.proofs.Common.{◌&&◌, ◌≤◌, ◌-◌, ltb}
-use Rattle.mat_sets.specs.Rounds.{AreTaken}
+use Rattle.mat_sets.proofs.Common.{◌&&◌, ◌≤◌, ◌-◌, ltb, AreTaken}
 use Rattle.mat_sets.proofs.level_search.take_arcs.Given as goal
 
 abbrev pub invariant-loop-next : goal.invariant-loop-next

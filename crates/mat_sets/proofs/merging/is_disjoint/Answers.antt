@@ -1,7 +1,5 @@
 -- The items so far are none of the other list, whose items before place j are all smaller than the next one.
-use Rattle.std.proofs.Common.{refl, sym, ap, ◌∙◌, arith, get_or, take_all}
-use Rattle.std.proofs.lemmas.Bool.{both_ways, false≢true}
-use Rattle.mat_sets.specs.Sets.{intersection}
+use Rattle.mat_sets.proofs.Common.{refl, sym, ap, ◌∙◌, arith, get_or, take_all, both_ways, false≢true, intersection}
 use Rattle.mat_sets.proofs.DisjointSets.{apart_at}
 use Rattle.mat_sets.proofs.Members.{RisesFrom-index, intersection-none, is_member-get_or}
 use Rattle.mat_sets.proofs.Places.{intersection-skip}

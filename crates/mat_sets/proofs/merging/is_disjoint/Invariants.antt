@@ -1,5 +1,4 @@
-use Rattle.std.proofs.Common.{◌≡◌, ℕ, ◌<◌, ◌≤◌, [], length, get_or, take}
-use Rattle.mat_sets.specs.Sets.{intersection}
+use Rattle.mat_sets.proofs.Common.{◌≡◌, ℕ, ◌<◌, ◌≤◌, [], length, get_or, take, intersection}
 use Rattle.mat_sets.proofs.merging.is_disjoint.Given as goal
 
 abbrev pub invariant-loop-x : goal.invariant-loop-x

@@ -1,6 +1,4 @@
-use Rattle.std.proofs.Common.{refl, sym, subst, ◌∙◌, arith, take_all}
-use Rattle.std.proofs.lemmas.Bool.{false≢true}
-use Rattle.mat_sets.specs.Sets.{IsSubset}
+use Rattle.mat_sets.proofs.Common.{refl, sym, subst, ◌∙◌, arith, take_all, false≢true, IsSubset}
 use Rattle.mat_sets.proofs.Members.{RisesFrom-index}
 use Rattle.mat_sets.proofs.Steps.{IsSubset-none, IsSubset-more, not-IsSubset}
 use Rattle.mat_sets.proofs.merging.is_subset.Goals as goal

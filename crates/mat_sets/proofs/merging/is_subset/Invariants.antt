@@ -1,5 +1,4 @@
-use Rattle.std.proofs.Common.{ℕ, ◌<◌, ◌≤◌, length, get_or, take}
-use Rattle.mat_sets.specs.Sets.{IsSubset}
+use Rattle.mat_sets.proofs.Common.{ℕ, ◌<◌, ◌≤◌, length, get_or, take, IsSubset}
 use Rattle.mat_sets.proofs.merging.is_subset.Given as goal
 
 abbrev pub invariant-loop-x : goal.invariant-loop-x

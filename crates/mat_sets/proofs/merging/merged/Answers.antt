@@ -1,6 +1,5 @@
 -- The smaller of the two next items goes to the end, and equal ones go there once; when one list ends, the rest of the other follows.
-use Rattle.std.proofs.Common.{◌≡◌, ◌++◌, drop, ◌∙◌, arith}
-use Rattle.mat_sets.specs.Sets.{union}
+use Rattle.mat_sets.proofs.Common.{◌≡◌, ◌++◌, drop, ◌∙◌, arith, union}
 use Rattle.mat_sets.proofs.UnionWalks.{IsMerging-start, IsMerging-first, IsMerging-second, IsMerging-both}
 use Rattle.mat_sets.proofs.UnionWalks.{IsMerging-end_first, IsMerging-end_second, both_rests}
 use Rattle.mat_sets.proofs.merging.merged.Goals as goal

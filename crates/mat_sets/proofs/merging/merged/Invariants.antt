@@ -1,4 +1,4 @@
-use Rattle.std.proofs.Common.{◌+◌, ◌-◌, ◌≤◌, length}
+use Rattle.mat_sets.proofs.Common.{◌+◌, ◌-◌, ◌≤◌, length}
 use Rattle.mat_sets.proofs.UnionWalks.{IsMerging}
 use Rattle.mat_sets.proofs.merging.merged.Given as goal
 

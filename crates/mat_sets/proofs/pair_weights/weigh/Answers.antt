@@ -1,6 +1,4 @@
-use Rattle.std.proofs.Common.{◌≡◌, ◌<◌, length, get_or, rules, arith, ap}
-use Rattle.std.proofs.lemmas.Int.{ints}
-use Rattle.mat_sets.specs.Weights.{zero_weight, weight_at}
+use Rattle.mat_sets.proofs.Common.{◌≡◌, ◌<◌, length, get_or, rules, arith, ap, ints, zero_weight, weight_at}
 use Rattle.mat_sets.proofs.Sums.{AllBelow-at}
 use Rattle.mat_sets.proofs.WeightOrder.{pairs}
 use Rattle.mat_sets.proofs.WeightSums.{weight_sum-more}

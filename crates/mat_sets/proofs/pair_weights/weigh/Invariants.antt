@@ -1,5 +1,4 @@
-use Rattle.std.proofs.Common.{◌≡◌, ◌*◌, ◌^◌, take}
-use Rattle.mat_sets.specs.Weights.{weight, IsWeightWithin}
+use Rattle.mat_sets.proofs.Common.{◌≡◌, ◌*◌, ◌^◌, take, weight, IsWeightWithin}
 use Rattle.mat_sets.proofs.pair_weights.weigh.Given as goal
 
 abbrev pub invariant-loop-x : goal.invariant-loop-x

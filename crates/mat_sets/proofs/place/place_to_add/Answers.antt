@@ -1,4 +1,4 @@
-use Rattle.std.proofs.Common.{arith}
+use Rattle.mat_sets.proofs.Common.{arith}
 use Rattle.mat_sets.proofs.Places.{gap_at_end}
 use Rattle.mat_sets.proofs.place.place_to_add.Goals.{then-len-eq0, else-len-eq0}
 use Rattle.mat_sets.proofs.place.place_to_add.Goals as goal

@@ -1,6 +1,5 @@
 -- The parts add up to the weights of the elements so far.
-use Rattle.std.proofs.Common.{◌≡◌, ℕ, ◌<◌, true}
-use Rattle.mat_sets.specs.Weights.{adds_up}
+use Rattle.mat_sets.proofs.Common.{◌≡◌, ℕ, ◌<◌, true, adds_up}
 use Rattle.mat_sets.proofs.split.first_unsplit.Given as goal
 
 abbrev pub invariant-loop-e : goal.invariant-loop-e

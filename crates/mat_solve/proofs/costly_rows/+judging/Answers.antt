@@ -1,8 +1,5 @@
-use Rattle.std.proofs.Common.{◌≡◌, ◌∙◌, ◌||◌, Bool, true, false, leb, length, sym, ap}
-use Rattle.std.proofs.lemmas.Bool.{le-leb, lt-leb}
+use Rattle.mat_solve.proofs.Common.{◌≡◌, ◌∙◌, ◌||◌, Bool, true, false, leb, length, sym, ap, le-leb, lt-leb, tree_of, has_costly_rows}
 use Rattle.std.specs.List.{list_any}
-use Rattle.mat_any.specs.Views.{tree_of}
-use Rattle.mat_solve.specs.CostlyRows.{has_costly_rows}
 use Rattle.mat_solve.proofs.CostlyUnions.{costly_union}
 use Rattle.mat_solve.proofs.costly_rows.+judging.Goals as goal
 

@@ -1,8 +1,6 @@
 -- None of the matroids so far has such rows.
-use Rattle.std.proofs.Common.{◌≡◌, false, take}
+use Rattle.mat_solve.proofs.Common.{◌≡◌, false, take, tree_of, has_costly_rows}
 use Rattle.std.specs.List.{list_any}
-use Rattle.mat_any.specs.Views.{tree_of}
-use Rattle.mat_solve.specs.CostlyRows.{has_costly_rows}
 use Rattle.mat_solve.proofs.costly_rows.+judging.Given as goal
 
 abbrev pub invariant-some_have_costly_rows-loop-matroid : goal.invariant-some_have_costly_rows-loop-matroid

@@ -1,5 +1,4 @@
-use Rattle.mat_fronts.specs.Assignments.{IsAssignmentLadder}
-use Rattle.mat_check.proofs.ValidGraphs.{table_has_cells}
+use Rattle.mat_solve.proofs.Common.{IsAssignmentLadder, table_has_cells}
 use Rattle.mat_solve.proofs.FrontSolutions.{assign_few, assign_solution}
 use Rattle.mat_solve.proofs.ladders.assign.Goals as goal
 

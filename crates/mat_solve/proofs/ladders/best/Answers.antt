@@ -1,11 +1,4 @@
-use Rattle.std.proofs.Common.{[], ◌∷◌, length, arith}
-use Rattle.mat_sets.specs.Weights.{weight_at}
-use Rattle.mat_any.specs.Trees.{is_independent}
-use Rattle.mat_any.specs.Views.{tree_of}
-use Rattle.mat_greedy.specs.Greedy.{AreHeaviestEach}
-use Rattle.mat_problem.specs.Validity.{IsValid}
-use Rattle.mat_problem.specs.Instances.{list}
-use Rattle.mat_problem.specs.Soundness.{IsSoundInstance}
+use Rattle.mat_solve.proofs.Common.{[], ◌∷◌, length, arith, weight_at, is_independent, tree_of, AreHeaviestEach, IsValid, list, IsSoundInstance}
 use Rattle.mat_solve.proofs.PlainLadder.{best_few, best_solution}
 use Rattle.mat_solve.proofs.ladders.best.Goals as goal
 

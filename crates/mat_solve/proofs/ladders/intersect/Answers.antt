@@ -1,7 +1,4 @@
-use Rattle.std.proofs.Common.{length}
-use Rattle.mat_any.specs.Trees.{is_independent}
-use Rattle.mat_any.specs.Views.{tree_of}
-use Rattle.mat_split.specs.Ladders.{IsLadder}
+use Rattle.mat_solve.proofs.Common.{length, is_independent, tree_of, IsLadder}
 use Rattle.mat_solve.proofs.PricedLadder.{pair_few, pair_solution}
 use Rattle.mat_solve.proofs.ladders.intersect.Goals as goal
 

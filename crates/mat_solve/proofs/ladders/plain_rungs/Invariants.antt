@@ -1,5 +1,4 @@
-use Rattle.std.proofs.Common.{◌≡◌, map}
-use Rattle.mat_solve.specs.PricedRungs.{plain_rung}
+use Rattle.mat_solve.proofs.Common.{◌≡◌, map, plain_rung}
 use Rattle.mat_solve.proofs.ladders.plain_rungs.Given as goal
 
 abbrev pub invariant-loop-set : goal.invariant-loop-set

@@ -1,5 +1,4 @@
-use Rattle.std.proofs.Common.{◌≡◌, map}
-use Rattle.mat_solve.specs.PricedRungs.{priced_rung}
+use Rattle.mat_solve.proofs.Common.{◌≡◌, map, priced_rung}
 use Rattle.mat_solve.proofs.ladders.priced_rungs.Given as goal
 
 abbrev pub invariant-loop-rung : goal.invariant-loop-rung

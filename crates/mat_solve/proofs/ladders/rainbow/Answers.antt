@@ -1,5 +1,4 @@
-use Rattle.mat_fronts.specs.Rainbow.{IsRainbowLadder}
-use Rattle.mat_check.proofs.ValidGraphs.{coloured_is_graph, coloured_is_coloured}
+use Rattle.mat_solve.proofs.Common.{IsRainbowLadder, coloured_is_graph, coloured_is_coloured}
 use Rattle.mat_solve.proofs.FrontSolutions.{rainbow_few, rainbow_solution}
 use Rattle.mat_solve.proofs.ladders.rainbow.Goals as goal
 

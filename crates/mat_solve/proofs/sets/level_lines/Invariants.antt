@@ -1,5 +1,4 @@
-use Rattle.std.proofs.Common.{◌≡◌, map}
-use Rattle.mat_right.specs.Right.{level_of}
+use Rattle.mat_solve.proofs.Common.{◌≡◌, map, level_of}
 use Rattle.mat_solve.proofs.sets.level_lines.Given as goal
 
 abbrev pub invariant-loop-level : goal.invariant-loop-level

@@ -1,10 +1,5 @@
-use Rattle.std.proofs.Common.{[], ◌∷◌, length, arith}
-use Rattle.mat_packing.specs.Answers.{IsRightPackingAnswer}
+use Rattle.mat_solve.proofs.Common.{[], ◌∷◌, length, arith, IsRightPackingAnswer, is_independent, tree_of, list, IsSoundInstance}
 use Rattle.mat_packing.specs.declared.packing.Packing.TheVariants.{Any, Most}
-use Rattle.mat_any.specs.Trees.{is_independent}
-use Rattle.mat_any.specs.Views.{tree_of}
-use Rattle.mat_problem.specs.Instances.{list}
-use Rattle.mat_problem.specs.Soundness.{IsSoundInstance}
 use Rattle.mat_solve.proofs.PackSolutions.{any_solution, pack_solution}
 use Rattle.mat_solve.proofs.sets.pack.Goals as goal
 

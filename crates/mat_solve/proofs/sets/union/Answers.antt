@@ -1,8 +1,5 @@
 -- Unions are sound and have few elements; the heaviest sets of the union, with their weights and cut, are a right answer.
-use Rattle.std.proofs.Common.{length, map, sym}
-use Rattle.mat_union.specs.RightUnions.{IsRightUnion}
-use Rattle.mat_any.specs.Trees.{is_independent}
-use Rattle.mat_any.specs.Views.{tree_of}
+use Rattle.mat_solve.proofs.Common.{length, map, sym, IsRightUnion, is_independent, tree_of}
 use Rattle.mat_problem.proofs.ListedMatroids.{all_sound, tests_of_trees}
 use Rattle.mat_solve.proofs.UnionSolutions.{union_few, union_solution}
 use Rattle.mat_solve.proofs.sets.union.Goals as goal

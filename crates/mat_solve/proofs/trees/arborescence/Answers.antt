@@ -1,5 +1,4 @@
-use Rattle.mat_arbor.specs.Arborescences.{IsUnreachedSet}
-use Rattle.mat_check.proofs.ValidGraphs.{rooted_is_graph}
+use Rattle.mat_solve.proofs.Common.{IsUnreachedSet, rooted_is_graph}
 use Rattle.mat_solve.proofs.TreeSolutions.{arbor_few, arbor_solution, unreached_solution}
 use Rattle.mat_solve.proofs.trees.arborescence.Goals as goal
 

@@ -1,4 +1,4 @@
-use Rattle.mat_check.proofs.ValidGraphs.{rooted_is_graph}
+use Rattle.mat_solve.proofs.Common.{rooted_is_graph}
 use Rattle.mat_solve.proofs.TreeSolutions.{disjoint_solution, seldom_solution}
 use Rattle.mat_solve.proofs.trees.disjoint.Goals as goal
 

@@ -1,6 +1,5 @@
-use Rattle.mat_packing.specs.Answers.{IsRightTreesAnswer}
+use Rattle.mat_solve.proofs.Common.{IsRightTreesAnswer, graph_is_graph}
 use Rattle.mat_packing.specs.declared.trees.Trees.TheVariants.{Trees, Partition}
-use Rattle.mat_check.proofs.ValidGraphs.{graph_is_graph}
 use Rattle.mat_solve.proofs.GraphSolutions.{trees_solution, partition_solution}
 use Rattle.mat_solve.proofs.trees.trees.Goals as goal
 

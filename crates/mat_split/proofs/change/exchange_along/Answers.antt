@@ -1,5 +1,4 @@
-use Rattle.std.proofs.Common.{◌∙◌, ap, sym, take, get_or, refl}
-use Rattle.mat_sets.specs.Sets.{with_one, without_one}
+use Rattle.mat_split.proofs.Common.{◌∙◌, ap, sym, take, get_or, refl, with_one, without_one}
 use Rattle.mat_split.proofs.Changing.{exchanged_along_none, exchanged_along_member, exchanged_along_other, IsRising-exchanged_along}
 use Rattle.mat_split.proofs.change.exchange_along.Goals as goal
 use Rattle.mat_split.proofs.change.exchange_along.Goals.{then-contains, else-contains+in_ok-add}

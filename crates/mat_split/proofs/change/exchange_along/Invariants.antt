@@ -1,5 +1,4 @@
-use Rattle.std.proofs.Common.{◌≡◌, take}
-use Rattle.mat_laws.specs.TightPaths.{exchanged_along}
+use Rattle.mat_split.proofs.Common.{◌≡◌, take, exchanged_along}
 use Rattle.mat_split.proofs.change.exchange_along.Given as goal
 
 abbrev pub invariant-loop-x : goal.invariant-loop-x

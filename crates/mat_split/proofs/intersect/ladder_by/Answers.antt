@@ -1,7 +1,5 @@
 -- Each turn adds a rung with one element more and the tables at its set; where no larger set exists, the cut ends the ladder.
-use Rattle.std.proofs.Common.{◌≡◌, subst, sym}
-use Rattle.mat_laws.specs.Exchanges.{rows_of}
-use Rattle.mat_split.specs.Augmenting.{IsAugmented}
+use Rattle.mat_split.proofs.Common.{◌≡◌, subst, sym, rows_of, IsAugmented}
 use Rattle.mat_split.proofs.RungSteps.{AreRungs-start, AreRungs-next, IsLadder-end, fewer_left, own_rung, weights_within}
 use Rattle.mat_split.proofs.intersect.ladder_by.Goals as goal
 

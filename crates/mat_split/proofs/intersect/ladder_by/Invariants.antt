@@ -1,5 +1,4 @@
-use Rattle.std.proofs.Common.{◌≡◌, ◌+◌, ◌-◌, length}
-use Rattle.mat_laws.specs.Exchanges.{rows_of}
+use Rattle.mat_split.proofs.Common.{◌≡◌, ◌+◌, ◌-◌, length, rows_of}
 use Rattle.mat_split.proofs.RungSteps.{AreRungs}
 use Rattle.mat_split.proofs.intersect.ladder_by.Given as goal
 

@@ -1,4 +1,4 @@
-use Rattle.std.proofs.Common.{length}
+use Rattle.mat_split.proofs.Common.{length}
 use Rattle.mat_laws.proofs.BestLadders.{rung_is_heaviest, fewer_than_rungs, split_weight}
 use Rattle.mat_split.proofs.laws.ladder_is_best.Goals as goal
 

@@ -1,5 +1,5 @@
 use Rattle.mat_problem.specs.Views.{instance_of}
-use Rattle.mat_cert.specs.Views.{certificate_of}
+use Rattle.mat_summary.proofs.Common.{certificate_of}
 use Rattle.mat_check.proofs.AnswerForms.{right_fits}
 use Rattle.mat_summary.proofs.sampling.accept.Goals as goal
 

@@ -1,6 +1,5 @@
 use Rattle.std.proofs.lemmas.Result.{IfOk-weaker}
-use Rattle.mat_cert.specs.Views.{certificate_of}
-use Rattle.mat_summary.specs.Summaries.{IsSummary}
+use Rattle.mat_summary.proofs.Common.{certificate_of, IsSummary}
 use Rattle.mat_summary.proofs.SampleForms.{sample_has_form}
 use Rattle.mat_summary.proofs.sampling.summary_of.Goals as goal
 

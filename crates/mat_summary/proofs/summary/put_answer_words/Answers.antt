@@ -1,4 +1,4 @@
-use Rattle.mat_cert.specs.Certificates.{IsRanged, intersect, assign, union_of}
+use Rattle.mat_summary.proofs.Common.{IsRanged, intersect, assign, union_of}
 use Rattle.mat_summary.proofs.SummaryRanges.{rung_weights_within, set_sizes_within}
 use Rattle.mat_summary.proofs.summary.put_answer_words.Goals as goal
 

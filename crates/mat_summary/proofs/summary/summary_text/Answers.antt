@@ -1,8 +1,4 @@
-use Rattle.std.proofs.Common.{◌≡◌, ◌++◌, ◌∷◌, [], codes, pos, rules}
-use Rattle.mat_words.specs.Numbers.{numeral}
-use Rattle.mat_summary.specs.Summaries.{kind_word, summary_words}
-use Rattle.mat_words.specs.Writing.{spaced}
-use Rattle.mat_cert.specs.Views.{certificate_of}
+use Rattle.mat_summary.proofs.Common.{◌≡◌, ◌++◌, ◌∷◌, [], codes, pos, rules, numeral, kind_word, summary_words, spaced, certificate_of}
 use Rattle.mat_summary.proofs.SummaryLines.{line_of_pieces}
 use Rattle.mat_summary.proofs.summary.summary_text.Goals as goal
 

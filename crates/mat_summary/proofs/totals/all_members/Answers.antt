@@ -1,6 +1,4 @@
-use Rattle.std.proofs.Common.{◌≡◌, ◌≤◌, List, ℕ, length, get_or, ap, arith}
-use Rattle.std.proofs.lemmas.List.Elements.{All-get_or}
-use Rattle.mat_sets.specs.Limits.{most_elements}
+use Rattle.mat_summary.proofs.Common.{◌≡◌, ◌≤◌, List, ℕ, length, get_or, ap, arith, All-get_or, most_elements}
 use Rattle.mat_summary.proofs.SummaryTotals.{all_members-more}
 use Rattle.mat_summary.proofs.totals.all_members.Goals as goal
 

@@ -1,6 +1,4 @@
-use Rattle.std.proofs.Common.{◌≡◌, ◌≤◌, ◌*◌, take}
-use Rattle.mat_sets.specs.Limits.{most_elements}
-use Rattle.mat_summary.specs.Summaries.{all_members}
+use Rattle.mat_summary.proofs.Common.{◌≡◌, ◌≤◌, ◌*◌, take, most_elements, all_members}
 use Rattle.mat_summary.proofs.totals.all_members.Given as goal
 
 abbrev pub invariant-loop-set : goal.invariant-loop-set

@@ -1,10 +1,4 @@
-use Rattle.std.proofs.Common.{◌≡◌, get_or, ap, arith}
-use Rattle.std.proofs.lemmas.Int.{ints}
-use Rattle.std.proofs.lemmas.List.Elements.{All-get_or}
-use Rattle.mat_sets.specs.Limits.{largest_number}
-use Rattle.mat_sets.specs.Weights.{IsWeightWithin}
-use Rattle.mat_sets.proofs.WeightOrder.{pairs}
-use Rattle.mat_cert.specs.declared.answer.PricedRung.{PricedRung}
+use Rattle.mat_summary.proofs.Common.{◌≡◌, get_or, ap, arith, ints, All-get_or, largest_number, IsWeightWithin, pairs, PricedRung}
 use Rattle.mat_summary.proofs.SummaryTotals.{ladder_weight-more}
 use Rattle.mat_summary.proofs.totals.ladder_weight.Goals as goal
 

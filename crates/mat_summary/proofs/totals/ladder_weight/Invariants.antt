@@ -1,6 +1,4 @@
-use Rattle.std.proofs.Common.{◌≡◌, ◌*◌, ◌^◌, take}
-use Rattle.mat_sets.specs.Weights.{IsWeightWithin}
-use Rattle.mat_summary.specs.Summaries.{ladder_weight}
+use Rattle.mat_summary.proofs.Common.{◌≡◌, ◌*◌, ◌^◌, take, IsWeightWithin, ladder_weight}
 use Rattle.mat_summary.proofs.totals.ladder_weight.Given as goal
 
 abbrev pub invariant-loop-rung : goal.invariant-loop-rung

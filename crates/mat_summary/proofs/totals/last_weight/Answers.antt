@@ -1,5 +1,4 @@
-use Rattle.std.proofs.Common.{◌-◌, length, sym, arith}
-use Rattle.std.proofs.lemmas.Option.{slice_get_within}
+use Rattle.mat_summary.proofs.Common.{◌-◌, length, sym, arith, slice_get_within}
 use Rattle.mat_summary.proofs.SummaryTotals.{last_weight-at}
 use Rattle.mat_summary.proofs.totals.last_weight.Goals as goal
 

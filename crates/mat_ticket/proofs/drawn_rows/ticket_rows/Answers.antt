@@ -1,10 +1,7 @@
 -- The shares, seats and rows that the workers have after their work are those that joining and placing ask for.
-use Rattle.std.proofs.Common.{◌≡◌, ℕ, ◌<◌, map, ◌∙◌, sym, subst}
+use Rattle.mat_ticket.proofs.Common.{◌≡◌, ℕ, ◌<◌, map, ◌∙◌, sym, subst, multiplicity, IsSeated, FitsRoom, tickets_of}
 use Rattle.std.specs.List.{AllByRecursion}
 use Rattle.std.proofs.lemmas.Result.{IfOk-weaker}
-use Rattle.mat_sets.specs.Families.{multiplicity}
-use Rattle.mat_ticket.specs.Joined.{IsSeated}
-use Rattle.mat_ticket.specs.Placing.{FitsRoom, tickets_of}
 use Rattle.mat_ticket.proofs.JoinedSeats.{each_once}
 use Rattle.mat_ticket.proofs.Teams.{same_shares}
 use Rattle.mat_ticket.proofs.AllTickets.{all_seated, all_fit, rows_in_order, tickets_of_all}

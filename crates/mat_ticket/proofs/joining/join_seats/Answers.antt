@@ -1,6 +1,5 @@
 -- Each worker that is taken out of the team adds its seat and its output.
-use Rattle.std.proofs.Common.{◌++◌, ◌&&◌, [], ◌∷◌, ◌∙◌, sym, ap, rules}
-use Rattle.mat_ticket.specs.Workers.{output_of}
+use Rattle.mat_ticket.proofs.Common.{◌++◌, ◌&&◌, [], ◌∷◌, ◌∙◌, sym, ap, rules, output_of}
 use Rattle.mat_ticket.proofs.JoinedSeats.{first_removed, joining-start, joining-next}
 use Rattle.mat_ticket.proofs.joining.join_seats.Goals as goal
 

@@ -1,5 +1,5 @@
 -- The seat that is kept holds what the workers so far drew, and with those that are left all shares.
-use Rattle.std.proofs.Common.{length}
+use Rattle.mat_ticket.proofs.Common.{length}
 use Rattle.mat_ticket.proofs.JoinedSeats.{IsJoining}
 use Rattle.mat_ticket.proofs.joining.join_seats.Given as goal
 

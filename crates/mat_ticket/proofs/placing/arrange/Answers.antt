@@ -1,7 +1,5 @@
 -- The rows of one worker more are at their places, and its tickets are behind the other lists.
-use Rattle.std.proofs.Common.{◌++◌, ◌∷◌, [], ◌∙◌, sym, ap, subst, rules}
-use Rattle.mat_sets.proofs.Steps.{written_back}
-use Rattle.mat_ticket.specs.Placing.{ArePlaced}
+use Rattle.mat_ticket.proofs.Common.{◌++◌, ◌∷◌, [], ◌∙◌, sym, ap, subst, rules, written_back, ArePlaced}
 use Rattle.mat_ticket.proofs.JoinedSeats.{first_removed}
 use Rattle.mat_ticket.proofs.Arranging.{IsArranging, arranging-start, arranging-next}
 use Rattle.mat_ticket.proofs.placing.arrange.Goals as goal

@@ -1,5 +1,5 @@
 -- What stands in a place is the row of a ticket, and the tickets so far have their places filled.
-use Rattle.std.proofs.Common.{length}
+use Rattle.mat_ticket.proofs.Common.{length}
 use Rattle.mat_ticket.proofs.Arranging.{IsArranging}
 use Rattle.mat_ticket.proofs.placing.arrange.Given as goal
 

@@ -1,5 +1,5 @@
 -- As many empty places as turns.
-use Rattle.std.proofs.Common.{◌≡◌, None, length}
+use Rattle.mat_ticket.proofs.Common.{◌≡◌, None, length}
 use Rattle.std.specs.List.{AllByRecursion}
 use Rattle.mat_ticket.proofs.placing.empty_slots.Given as goal
 

@@ -1,6 +1,5 @@
 -- One row less is left, and it is at the place of its ticket.
-use Rattle.std.proofs.Common.{◌≡◌, [], ◌∷◌, ◌∙◌, length, slice_index, sym, ap, arith}
-use Rattle.std.proofs.lemmas.List.{append-nil}
+use Rattle.mat_ticket.proofs.Common.{◌≡◌, [], ◌∷◌, ◌∙◌, length, slice_index, sym, ap, arith, append-nil}
 use Rattle.mat_ticket.proofs.Slots.{placed-none, placed-next, ticket_below, more_rest}
 use Rattle.mat_ticket.proofs.placing.place_rows.Goals as goal
 

@@ -1,6 +1,5 @@
 -- The rows are those that are left and a rest, and the rest is placed.
-use Rattle.std.proofs.Common.{◌≡◌, ◌++◌, List, length}
-use Rattle.mat_ticket.specs.Placing.{ArePlaced}
+use Rattle.mat_ticket.proofs.Common.{◌≡◌, ◌++◌, List, length, ArePlaced}
 use Rattle.mat_ticket.proofs.placing.place_rows.Given as goal
 
 abbrev pub invariant-loop-row : goal.invariant-loop-row

@@ -1,6 +1,5 @@
 -- No place is empty before its turn, and what was in it is pushed.
-use Rattle.std.proofs.Common.{◌<◌, Some, length, set, ◌∙◌, sym, ap, arith}
-use Rattle.std.proofs.lemmas.Option.{slice_get_read}
+use Rattle.mat_ticket.proofs.Common.{◌<◌, Some, length, set, ◌∙◌, sym, ap, arith, slice_get_read}
 use Rattle.mat_ticket.proofs.Arranging.{emptying-next, not_empty}
 use Rattle.mat_ticket.proofs.placing.rows_of_slots.Goals as goal
 

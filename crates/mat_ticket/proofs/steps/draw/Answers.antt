@@ -1,5 +1,5 @@
 -- A draw keeps the rule of the word.
-use Rattle.std.proofs.Common.{arith}
+use Rattle.mat_ticket.proofs.Common.{arith}
 use Rattle.mat_ticket.proofs.WordSteps.{draws}
 use Rattle.mat_ticket.proofs.steps.draw.Goals as goal
 

@@ -1,5 +1,5 @@
 -- Joining two seats keeps the rule of the word.
-use Rattle.std.proofs.Common.{arith}
+use Rattle.mat_ticket.proofs.Common.{arith}
 use Rattle.mat_ticket.proofs.WordSteps.{joins}
 use Rattle.mat_ticket.proofs.steps.join_other.Goals as goal
 

@@ -1,5 +1,5 @@
 -- Splitting one share off keeps the rule of the word.
-use Rattle.std.proofs.Common.{arith}
+use Rattle.mat_ticket.proofs.Common.{arith}
 use Rattle.mat_ticket.proofs.WordSteps.{splits}
 use Rattle.mat_ticket.proofs.steps.split_share.Goals as goal
 

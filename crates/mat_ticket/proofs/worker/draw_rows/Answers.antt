@@ -1,6 +1,5 @@
 -- The number that was drawn becomes a ticket with its row, and the next one is above it.
-use Rattle.std.proofs.Common.{◌<◌, ◌∙◌, sym, ap, subst, arith}
-use Rattle.mat_sets.specs.Sets.{AllBelow, IsRising}
+use Rattle.mat_ticket.proofs.Common.{◌<◌, ◌∙◌, sym, ap, subst, arith, AllBelow, IsRising}
 use Rattle.mat_ticket.proofs.Drawing.{may_draw, draws_above, next_drawn, next_above, IsRising-push, AllBelow-push, AreRowsAt-pushed}
 use Rattle.mat_ticket.proofs.worker.draw_rows.Goals as goal
 

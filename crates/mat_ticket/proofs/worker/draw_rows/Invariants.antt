@@ -1,7 +1,5 @@
 -- What the seat drew is the tickets and then the number that is in hand; each ticket has its row.
-use Rattle.std.proofs.Common.{◌≡◌, ◌-◌, ◌++◌, [], ◌∷◌}
-use Rattle.mat_sets.specs.Sets.{AllBelow, IsRising}
-use Rattle.mat_ticket.specs.Outputs.{AreRowsAt}
+use Rattle.mat_ticket.proofs.Common.{◌≡◌, ◌-◌, ◌++◌, [], ◌∷◌, AllBelow, IsRising, AreRowsAt}
 use Rattle.mat_ticket.proofs.worker.draw_rows.Given as goal
 
 abbrev pub decreases-loop-ticket : goal.decreases-loop-ticket

@@ -1,7 +1,6 @@
 -- One share less is left with each worker more, and all of them together are 16.
-use Rattle.std.proofs.Common.{◌≡◌, ◌+◌, [], length}
+use Rattle.mat_ticket.proofs.Common.{◌≡◌, ◌+◌, [], length, share_of, IsFresh}
 use Rattle.std.specs.List.{AllByRecursion, sum_by}
-use Rattle.mat_ticket.specs.Workers.{share_of, IsFresh}
 use Rattle.mat_ticket.proofs.worker.form_team.Given as goal
 
 abbrev pub invariant-loop : goal.invariant-loop

@@ -1,8 +1,5 @@
-use Rattle.std.proofs.lemmas.Result.{IfOk-weaker}
-use Rattle.mat_problem.specs.Views.{instance_of}
+use Rattle.mat_top.proofs.Common.{IfOk-weaker, instance_of, length-certificate_text, HasSolutionText}
 use Rattle.mat_cert.specs.Views.{certificate_of}
-use Rattle.mat_cert.proofs.Lengths.{length-certificate_text}
-use Rattle.mat_top.specs.Refusals.{HasSolutionText}
 use Rattle.mat_top.proofs.about.solution_text.Goals as goal
 
 pub returns : goal.returns

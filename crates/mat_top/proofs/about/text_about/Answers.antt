@@ -1,5 +1,4 @@
-use Rattle.mat_problem.specs.Views.{instance_of}
-use Rattle.mat_command.specs.Commands.{request_of}
+use Rattle.mat_top.proofs.Common.{instance_of, request_of}
 use Rattle.mat_top.proofs.Refusing.{text_found, none_found}
 use Rattle.mat_top.proofs.about.text_about.Goals as goal
 

@@ -1,8 +1,5 @@
 -- A job that cannot be read refuses the call; where all are read, the texts are those of right answers, in the order of the list.
-use Rattle.std.proofs.Common.{map, sym, subst}
-use Rattle.std.proofs.lemmas.Result.{err_from_is_err_and}
-use Rattle.mat_top.specs.LoadedJobs.{AreLoaded, AreUnloaded, HaveTexts}
-use Rattle.mat_command.specs.Views.{job_of}
+use Rattle.mat_top.proofs.Common.{map, sym, subst, err_from_is_err_and, AreLoaded, AreUnloaded, HaveTexts, job_of}
 use Rattle.mat_top.proofs.Batches.{refused_jobs, may_be_written}
 use Rattle.mat_top.proofs.LoadedJobs.{are_loaded_there, are_unloaded_there, loaded_count}
 use Rattle.mat_top.proofs.batch.batch_texts.Goals as goal

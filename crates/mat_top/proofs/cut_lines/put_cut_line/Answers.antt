@@ -1,7 +1,4 @@
-use Rattle.std.proofs.Common.{◌≡◌, ◌++◌, ◌∷◌, ◌∙◌, [], codes, pos, append_assoc, arith, rules}
-use Rattle.mat_words.specs.Lines.{text_of}
-use Rattle.mat_words.specs.Numbers.{numeral}
-use Rattle.mat_words.specs.Writing.{members_line}
+use Rattle.mat_top.proofs.Common.{◌≡◌, ◌++◌, ◌∷◌, ◌∙◌, [], codes, pos, append_assoc, arith, rules, text_of, numeral, members_line}
 use Rattle.mat_words.proofs.WrittenLines.{item_written, line_written}
 use Rattle.mat_top.proofs.cut_lines.put_cut_line.Goals as goal
 

@@ -1,6 +1,5 @@
-use Rattle.std.proofs.Common.{◌≡◌, ◌++◌, ◌∷◌, codes, pos, take}
+use Rattle.mat_top.proofs.Common.{◌≡◌, ◌++◌, ◌∷◌, codes, pos, take, numeral}
 use Rattle.std.specs.List.{flat_map}
-use Rattle.mat_words.specs.Numbers.{numeral}
 use Rattle.mat_top.proofs.cut_lines.put_cut_line.Given as goal
 
 -- the keyword and the weight stand there, and behind them the members so far

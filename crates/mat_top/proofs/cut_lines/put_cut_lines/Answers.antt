@@ -1,6 +1,4 @@
-use Rattle.std.proofs.Common.{arith, rules}
-use Rattle.mat_cert.proofs.LineTexts.{line_added}
-use Rattle.mat_top.specs.CutTexts.{cut_line}
+use Rattle.mat_top.proofs.Common.{arith, rules, line_added, cut_line}
 use Rattle.mat_top.proofs.cut_lines.put_cut_lines.Goals as goal
 
 pub loop-cut-preserved : goal.loop-cut-preserved

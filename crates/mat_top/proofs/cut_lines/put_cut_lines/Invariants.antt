@@ -1,6 +1,4 @@
-use Rattle.std.proofs.Common.{◌≡◌, ◌++◌, map, take}
-use Rattle.mat_words.specs.Lines.{text_of}
-use Rattle.mat_top.specs.CutTexts.{cut_line}
+use Rattle.mat_top.proofs.Common.{◌≡◌, ◌++◌, map, take, text_of, cut_line}
 use Rattle.mat_top.proofs.cut_lines.put_cut_lines.Given as goal
 
 -- the lines of the sets so far stand there

@@ -1,9 +1,4 @@
-use Rattle.std.proofs.Common.{◌≡◌, ◌∷◌, [], codes, length, map, pos, rules}
-use Rattle.mat_words.specs.Lines.{text_of}
-use Rattle.mat_words.specs.Numbers.{numeral}
-use Rattle.mat_words.specs.Writing.{members_line, end_line}
-use Rattle.mat_cert.proofs.LineTexts.{opening, four_pieces}
-use Rattle.mat_top.specs.CutTexts.{cut_line}
+use Rattle.mat_top.proofs.Common.{◌≡◌, ◌∷◌, [], codes, length, map, pos, rules, text_of, numeral, members_line, end_line, opening, four_pieces, cut_line}
 use Rattle.mat_top.proofs.cut_lines.tree_text.Goals as goal
 
 pub returns : goal.returns

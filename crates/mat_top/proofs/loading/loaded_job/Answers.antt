@@ -1,5 +1,4 @@
-use Rattle.mat_problem.specs.Views.{instance_of}
-use Rattle.mat_command.specs.Views.{job_of}
+use Rattle.mat_top.proofs.Common.{instance_of, job_of}
 use Rattle.mat_top.proofs.LoadedJobs.{other_form}
 use Rattle.mat_top.proofs.loading.loaded_job.Goals as goal
 

@@ -1,6 +1,4 @@
-use Rattle.std.proofs.Common.{◌∙◌, map, arith}
-use Rattle.std.proofs.lemmas.Result.{err_from_is_err_and}
-use Rattle.mat_command.specs.Views.{job_of}
+use Rattle.mat_top.proofs.Common.{◌∙◌, map, arith, err_from_is_err_and, job_of}
 use Rattle.mat_top.proofs.LoadedJobs.{unloaded_memory, loading_more, loading_last}
 use Rattle.mat_top.proofs.loading.loaded_jobs.Goals as goal
 

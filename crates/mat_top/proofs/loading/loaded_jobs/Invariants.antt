@@ -1,6 +1,4 @@
-use Rattle.std.proofs.Common.{◌≡◌, ◌≤◌, ℕ, List, map, drop}
-use Rattle.mat_top.specs.LoadedJobs.{IsLoading}
-use Rattle.mat_command.specs.Views.{job_of}
+use Rattle.mat_top.proofs.Common.{◌≡◌, ◌≤◌, ℕ, List, map, drop, IsLoading, job_of}
 use Rattle.mat_top.proofs.loading.loaded_jobs.Given as goal
 
 abbrev pub invariant-loop-job : goal.invariant-loop-job

@@ -1,5 +1,4 @@
-use Rattle.std.proofs.lemmas.Result.{err_from_is_err_and}
-use Rattle.mat_command.specs.Commands.{task_of}
+use Rattle.mat_top.proofs.Common.{err_from_is_err_and, task_of}
 use Rattle.mat_top.proofs.Ending.{refused}
 use Rattle.mat_top.proofs.top_call.perform.Goals as goal
 

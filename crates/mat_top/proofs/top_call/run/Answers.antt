@@ -1,7 +1,5 @@
-use Rattle.std.proofs.Common.{Some, Err, sym}
+use Rattle.mat_top.proofs.Common.{Some, Err, sym, task_of, note_of}
 use Rattle.mat_judge.specs.declared.refusal.Refusal.TheVariants as refusals
-use Rattle.mat_command.specs.Commands.{task_of}
-use Rattle.mat_judge.specs.Notes.{note_of}
 use Rattle.mat_top.proofs.Ending.{note_is, ended-true, ended-written}
 use Rattle.mat_top.proofs.top_call.run.Goals as goal
 

@@ -1,4 +1,4 @@
-use Rattle.std.proofs.lemmas.Result.{err_from_is_err_and}
+use Rattle.mat_top.proofs.Common.{err_from_is_err_and}
 use Rattle.mat_top.proofs.top_call.texts_for.Goals as goal
 
 pub returns-in_err-text-in-About-clause-refusal : goal.returns-in_err-text-in-About-clause-refusal

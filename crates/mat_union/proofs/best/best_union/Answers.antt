@@ -1,12 +1,5 @@
 -- The loop goes over the falling weights: at each the spanned elements become the cut of its level.
-use Rattle.std.proofs.Common.{◌≡◌, ◌∙◌, ◌+◌, ◌<◌, ◌≤◌, length, map, subst, sym, ap}
-use Rattle.std.proofs.lemmas.List.{length-map}
-use Rattle.mat_sets.specs.FallingWeights.{falling_weights}
-use Rattle.mat_sets.specs.Families.{family_union}
-use Rattle.mat_sets.specs.Search.{those_below}
-use Rattle.mat_sets.specs.Sets.{is_member}
-use Rattle.mat_sets.specs.Weights.{is_same, weight_at}
-use Rattle.mat_union.specs.RightUnions.{IsRightUnion}
+use Rattle.mat_union.proofs.Common.{◌≡◌, ◌∙◌, ◌+◌, ◌<◌, ◌≤◌, length, map, subst, sym, ap, length-map, falling_weights, family_union, those_below, is_member, is_same, weight_at, IsRightUnion}
 use Rattle.mat_union.proofs.EmptyParts.{empty_are, nothing}
 use Rattle.mat_union.proofs.GrowthLoops.{done_ext}
 use Rattle.mat_union.proofs.LevelSteps.{came, level_done, level_fresh, levels_end, levels_more, levels_none, none_came, AreLevelsSo}

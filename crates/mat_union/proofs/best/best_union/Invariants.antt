@@ -1,5 +1,4 @@
-use Rattle.std.proofs.Common.{map}
-use Rattle.mat_union.specs.GrownParts.{AreDone, AreGrowing, AreKept}
+use Rattle.mat_union.proofs.Common.{map, AreDone, AreGrowing, AreKept}
 use Rattle.mat_union.proofs.LevelSteps.{came, AreLevelsSo}
 use Rattle.mat_union.proofs.best.best_union.Given as goal
 

@@ -1,7 +1,4 @@
-use Rattle.std.proofs.Common.{◌∙◌, cond, ap}
-use Rattle.mat_sets.specs.Sets.{with_one}
-use Rattle.mat_sets.specs.Weights.{is_same, weight_at}
-use Rattle.mat_sets.proofs.Rounds.{those_below-more, those_below-none}
+use Rattle.mat_union.proofs.Common.{◌∙◌, cond, ap, with_one, is_same, weight_at, those_below-more, those_below-none}
 use Rattle.mat_union.proofs.best.elements_of.Goals as goal
 
 pub loop-x-init : goal.loop-x-init

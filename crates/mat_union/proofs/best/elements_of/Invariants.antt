@@ -1,6 +1,4 @@
-use Rattle.std.proofs.Common.{◌≡◌}
-use Rattle.mat_sets.specs.Search.{those_below}
-use Rattle.mat_sets.specs.Weights.{is_same, weight_at}
+use Rattle.mat_union.proofs.Common.{◌≡◌, those_below, is_same, weight_at}
 use Rattle.mat_union.proofs.best.elements_of.Given as goal
 
 abbrev pub invariant-loop-x : goal.invariant-loop-x

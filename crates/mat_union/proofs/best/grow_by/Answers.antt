@@ -1,5 +1,4 @@
-use Rattle.std.proofs.Common.{refl}
-use Rattle.mat_sets.proofs.Members.{is_member-get_or}
+use Rattle.mat_union.proofs.Common.{refl, is_member-get_or}
 use Rattle.mat_union.proofs.GrowthLoops.{coming_end, coming_more, coming_none, is_unspanned, next_new}
 use Rattle.mat_union.proofs.best.grow_by.Goals as goal
 

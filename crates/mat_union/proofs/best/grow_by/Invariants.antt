@@ -1,5 +1,4 @@
-use Rattle.std.proofs.Common.{map}
-use Rattle.mat_union.specs.GrownParts.{AreGrowing, AreKept}
+use Rattle.mat_union.proofs.Common.{map, AreGrowing, AreKept}
 use Rattle.mat_union.proofs.GrowthLoops.{AreComing}
 use Rattle.mat_union.proofs.best.grow_by.Given as goal
 

@@ -1,5 +1,4 @@
-use Rattle.std.proofs.Common.{◌∙◌, ap}
-use Rattle.mat_union.specs.Unions.{part_at}
+use Rattle.mat_union.proofs.Common.{◌∙◌, ap, part_at}
 use Rattle.mat_union.proofs.EmptyParts.{part_at-empty}
 use Rattle.mat_union.proofs.empty.empty_parts.Goals as goal
 

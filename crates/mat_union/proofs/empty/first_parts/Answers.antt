@@ -1,6 +1,4 @@
-use Rattle.std.proofs.Common.{◌≡◌, ◌+◌, ◌-◌, ◌∙◌, ◌∷◌, ◌++◌, List, ℕ, [], replicate, ap, arith}
-use Rattle.std.proofs.lemmas.List.{replicate_more}
-use Rattle.mat_union.specs.Unions.{part_at}
+use Rattle.mat_union.proofs.Common.{◌≡◌, ◌+◌, ◌-◌, ◌∙◌, ◌∷◌, ◌++◌, List, ℕ, [], replicate, ap, arith, replicate_more, part_at}
 use Rattle.mat_union.proofs.EmptyParts.{part_at-later}
 use Rattle.mat_union.proofs.empty.first_parts.Goals as goal
 

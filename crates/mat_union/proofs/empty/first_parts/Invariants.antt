@@ -1,4 +1,4 @@
-use Rattle.std.proofs.Common.{◌≡◌, ◌<◌, ◌-◌, ◌∷◌, [], replicate}
+use Rattle.mat_union.proofs.Common.{◌≡◌, ◌<◌, ◌-◌, ◌∷◌, [], replicate}
 use Rattle.mat_union.proofs.empty.first_parts.Given as goal
 
 abbrev pub invariant-loop : goal.invariant-loop

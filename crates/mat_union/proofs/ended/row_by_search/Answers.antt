@@ -1,5 +1,4 @@
-use Rattle.std.proofs.Common.{◌∙◌, ◌||◌, ap, refl}
-use Rattle.mat_sets.specs.Sets.{is_member}
+use Rattle.mat_union.proofs.Common.{◌∙◌, ◌||◌, ap, refl, is_member}
 use Rattle.mat_union.proofs.SearchEnds.{entered_row, stuck_row}
 use Rattle.mat_union.proofs.ended.row_by_search.Goals as goal
 

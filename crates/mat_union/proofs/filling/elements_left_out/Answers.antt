@@ -1,8 +1,4 @@
-use Rattle.std.proofs.Common.{◌≡◌, ◌∙◌, cond, not, ap, arith, subst}
-use Rattle.mat_sets.specs.Families.{family_union}
-use Rattle.mat_sets.specs.Search.{those_below}
-use Rattle.mat_sets.specs.Sets.{is_member, with_one}
-use Rattle.mat_sets.proofs.Rounds.{those_below-more, those_below-none}
+use Rattle.mat_union.proofs.Common.{◌≡◌, ◌∙◌, cond, not, ap, arith, subst, family_union, those_below, is_member, with_one, those_below-more, those_below-none}
 use Rattle.mat_union.proofs.filling.elements_left_out.Goals as goal
 
 pub loop-x-init : goal.loop-x-init

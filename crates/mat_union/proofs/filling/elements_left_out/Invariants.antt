@@ -1,7 +1,4 @@
-use Rattle.std.proofs.Common.{◌≡◌, not}
-use Rattle.mat_sets.specs.Families.{family_union}
-use Rattle.mat_sets.specs.Search.{those_below}
-use Rattle.mat_sets.specs.Sets.{is_member}
+use Rattle.mat_union.proofs.Common.{◌≡◌, not, family_union, those_below, is_member}
 use Rattle.mat_union.proofs.filling.elements_left_out.Given as goal
 
 abbrev pub invariant-loop-x : goal.invariant-loop-x

@@ -1,9 +1,4 @@
-use Rattle.std.proofs.Common.{◌≡◌, ◌∙◌, map, subst, sym}
-use Rattle.mat_sets.specs.Families.{family_union}
-use Rattle.mat_sets.specs.Sets.{IsSubset}
-use Rattle.mat_union.specs.FilledParts.{IsFilled}
-use Rattle.mat_union.specs.GrownParts.{AreFresh}
-use Rattle.mat_union.specs.UnionsOf.{common_size}
+use Rattle.mat_union.proofs.Common.{◌≡◌, ◌∙◌, map, subst, sym, family_union, IsSubset, IsFilled, AreFresh, common_size}
 use Rattle.mat_union.proofs.FillingParts.{filled, left_out_fresh}
 use Rattle.mat_union.proofs.SoundMatroids.{sound_at}
 use Rattle.mat_union.proofs.filling.fill_parts.Goals as goal

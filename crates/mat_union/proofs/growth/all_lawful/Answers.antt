@@ -1,5 +1,4 @@
-use Rattle.std.proofs.Common.{arith, subst}
-use Rattle.mat_laws.specs.Matroids.{IsMatroid}
+use Rattle.mat_union.proofs.Common.{arith, subst, IsMatroid}
 use Rattle.mat_union.proofs.SoundMatroids.{laws_end, laws_more, sound_at}
 use Rattle.mat_union.proofs.growth.all_lawful.Goals as goal
 

@@ -1,6 +1,4 @@
-use Rattle.std.proofs.Common.{ℕ, ◌<◌, map}
-use Rattle.mat_laws.specs.Matroids.{IsMatroid}
-use Rattle.mat_union.specs.Unions.{test_at}
+use Rattle.mat_union.proofs.Common.{ℕ, ◌<◌, map, IsMatroid, test_at}
 use Rattle.mat_union.proofs.growth.all_lawful.Given as goal
 
 abbrev pub invariant-loop-i : goal.invariant-loop-i

@@ -1,11 +1,6 @@
 -- Either the element finds a place, and the parts hold one element more, or the search is stuck, and then the reached elements are spanned in each
 -- matroid; either way the element is done with.
-use Rattle.std.proofs.Common.{◌≡◌, ◌∙◌, ◌||◌, ap, eqb, map, subst, sym, true}
-use Rattle.std.proofs.lemmas.Bool.{or_right}
-use Rattle.mat_sets.specs.Families.{family_union}
-use Rattle.mat_sets.specs.Sets.{is_member}
-use Rattle.mat_union.specs.GrownParts.{AreDone, AreGrowing}
-use Rattle.mat_union.specs.Placings.{IsPlacing}
+use Rattle.mat_union.proofs.Common.{◌≡◌, ◌∙◌, ◌||◌, ap, eqb, map, subst, sym, true, or_right, family_union, is_member, AreDone, AreGrowing, IsPlacing}
 use Rattle.mat_union.proofs.GrowingParts.{placed_grow}
 use Rattle.mat_union.proofs.GrowingSteps.{spanned_done, spanned_grown, placed_done, placed_hold}
 use Rattle.mat_union.proofs.UnionRuns.{spanned_turn, placed_turn}

@@ -1,7 +1,4 @@
-use Rattle.std.proofs.Common.{map, subst, sym}
-use Rattle.mat_sets.specs.Families.{family_union}
-use Rattle.mat_sets.specs.Sets.{is_member}
-use Rattle.mat_union.specs.GrownParts.{AreDone, AreGrowing}
+use Rattle.mat_union.proofs.Common.{map, subst, sym, family_union, is_member, AreDone, AreGrowing}
 use Rattle.mat_union.proofs.FillingParts.{start_done, start_growing}
 use Rattle.mat_union.proofs.growth.growth_from.Goals as goal
 

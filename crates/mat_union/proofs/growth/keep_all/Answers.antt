@@ -1,4 +1,4 @@
-use Rattle.std.proofs.Common.{◌+◌, arith, subst, sym}
+use Rattle.mat_union.proofs.Common.{◌+◌, arith, subst, sym}
 use Rattle.mat_union.proofs.SoundMatroids.{kept_end, kept_more, kept_none, part_passes, parts_count, sound_at, AreKeptSo}
 use Rattle.mat_union.proofs.growth.keep_all.Goals as goal
 

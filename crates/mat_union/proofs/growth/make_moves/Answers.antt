@@ -1,8 +1,5 @@
 -- The parts so far are those after all moves, with what is kept of them; a part that no move enters or leaves stays as it is.
-use Rattle.std.proofs.Common.{◌+◌, ◌<◌, ◌∙◌, arith, length, refl, subst, sym}
-use Rattle.mat_union.specs.GrownParts.{AreKept}
-use Rattle.mat_union.specs.Moves.{all_moved}
-use Rattle.mat_union.specs.Unions.{part_at}
+use Rattle.mat_union.proofs.Common.{◌+◌, ◌<◌, ◌∙◌, arith, length, refl, subst, sym, AreKept, all_moved, part_at}
 use Rattle.mat_union.proofs.MadeMoves.{anew_at, anew_end, anew_none, made_end, made_none, made_part, made_same, made_set, part_stays, AreMadeSo}
 use Rattle.mat_union.proofs.MovedSets.{all_moved_at}
 use Rattle.mat_union.proofs.SoundMatroids.{anew_same, anew_set, part_passes, parts_count, sound_at, AreKeptAnew}

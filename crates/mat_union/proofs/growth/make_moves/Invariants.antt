@@ -1,4 +1,4 @@
-use Rattle.mat_union.specs.Moves.{all_moved}
+use Rattle.mat_union.proofs.Common.{all_moved}
 use Rattle.mat_union.proofs.MadeMoves.{AreMadeSo}
 use Rattle.mat_union.proofs.SoundMatroids.{AreKeptAnew}
 use Rattle.mat_union.proofs.growth.make_moves.Given as goal

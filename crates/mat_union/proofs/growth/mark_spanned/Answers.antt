@@ -1,5 +1,4 @@
-use Rattle.std.proofs.Common.{arith}
-use Rattle.mat_sets.specs.Sets.{is_member}
+use Rattle.mat_union.proofs.Common.{arith, is_member}
 use Rattle.mat_union.proofs.SpannedElements.{spanned_with, spanned_with_one, unspanned_more, unspanned_none, unspanned_without_one}
 use Rattle.mat_union.proofs.growth.mark_spanned.Goals as goal
 

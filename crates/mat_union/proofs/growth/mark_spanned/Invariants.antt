@@ -1,5 +1,4 @@
-use Rattle.std.proofs.Common.{◌≡◌, ◌&&◌, not, take, ℕ}
-use Rattle.mat_sets.specs.Sets.{is_member}
+use Rattle.mat_union.proofs.Common.{◌≡◌, ◌&&◌, not, take, ℕ, is_member}
 use Rattle.mat_union.proofs.growth.mark_spanned.Given as goal
 
 -- the first elements are taken out of the unspanned ones

@@ -1,6 +1,5 @@
 -- None of the first parts takes x.
-use Rattle.std.proofs.Common.{◌≡◌, ℕ, ◌<◌, false, map}
-use Rattle.mat_union.specs.Moves.{exchanges_with}
+use Rattle.mat_union.proofs.Common.{◌≡◌, ℕ, ◌<◌, false, map, exchanges_with}
 use Rattle.mat_union.proofs.growth.part_that_takes.Given as goal
 
 abbrev pub invariant-loop-i : goal.invariant-loop-i

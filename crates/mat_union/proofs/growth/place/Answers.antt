@@ -1,5 +1,4 @@
-use Rattle.std.proofs.Common.{map, refl, subst, sym}
-use Rattle.mat_union.specs.Placings.{ArePlaced, IsPlaceSearch}
+use Rattle.mat_union.proofs.Common.{map, refl, subst, sym, ArePlaced, IsPlaceSearch}
 use Rattle.mat_union.proofs.PlacedElements.{search_places}
 use Rattle.mat_union.proofs.growth.place.Goals as goal
 

@@ -1,6 +1,4 @@
-use Rattle.std.proofs.Common.{◌≡◌, ◌<◌, true, length, map, subst}
-use Rattle.std.specs.Prelude.{IfSome}
-use Rattle.mat_union.specs.Moves.{exchanges_with}
+use Rattle.mat_union.proofs.Common.{◌≡◌, ◌<◌, true, length, map, subst, IfSome, exchanges_with}
 use Rattle.mat_union.proofs.AskedRows.{reaching_is_ready}
 use Rattle.mat_union.proofs.growth.place_for.Goals as goal
 

@@ -1,7 +1,5 @@
 -- Each question tells one row of exchanges, so fewer are left; the search ends at an element that a part can take, or with all that it reaches.
-use Rattle.std.proofs.Common.{◌<◌, length, map, arith, subst, sym}
-use Rattle.mat_union.specs.Moves.{exchanges_with}
-use Rattle.mat_union.specs.MoveSearches.{IsReaching}
+use Rattle.mat_union.proofs.Common.{◌<◌, length, map, arith, subst, sym, exchanges_with, IsReaching}
 use Rattle.mat_union.proofs.AskedRows.{asked_below, row_told}
 use Rattle.mat_union.proofs.SoundMatroids.{parts_count, sound_at}
 use Rattle.mat_union.proofs.growth.search_from.Goals as goal

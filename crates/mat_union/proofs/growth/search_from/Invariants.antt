@@ -1,6 +1,4 @@
-use Rattle.std.proofs.Common.{length, map}
-use Rattle.mat_union.specs.Moves.{exchanges_with}
-use Rattle.mat_union.specs.MoveSearches.{questions_left, IsReaching}
+use Rattle.mat_union.proofs.Common.{length, map, exchanges_with, questions_left, IsReaching}
 use Rattle.mat_union.proofs.growth.search_from.Given as goal
 
 abbrev pub invariant-loop-asked : goal.invariant-loop-asked

@@ -1,10 +1,4 @@
-use Rattle.std.proofs.Common.{◌≡◌, ◌∙◌, ap, map, subst, sym, false}
-use Rattle.std.proofs.lemmas.Bool.{ltb-true}
-use Rattle.std.specs.Prelude.{IfOk}
-use Rattle.mat_sets.specs.Families.{family_union}
-use Rattle.mat_sets.specs.Sets.{all_below, is_member}
-use Rattle.mat_sets.proofs.Ground.{is_member-all_below}
-use Rattle.mat_union.specs.Placings.{IsBrought, IsPlacing}
+use Rattle.mat_union.proofs.Common.{◌≡◌, ◌∙◌, ap, map, subst, sym, false, ltb-true, IfOk, family_union, all_below, is_member, is_member-all_below, IsBrought, IsPlacing}
 use Rattle.mat_union.proofs.GrowingSteps.{in_new}
 use Rattle.mat_union.proofs.StuckParts.{stuck_refuses}
 use Rattle.mat_union.proofs.kept_parts.bring.Goals as goal

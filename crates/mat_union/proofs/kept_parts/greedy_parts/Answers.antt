@@ -1,8 +1,4 @@
-use Rattle.std.proofs.Common.{◌≡◌, ◌∙◌, arith, length, map, subst, sym}
-use Rattle.std.proofs.lemmas.List.{length-map}
-use Rattle.mat_sets.specs.Families.{family_union}
-use Rattle.mat_sets.specs.Sets.{AllBelow, IsSubset}
-use Rattle.mat_union.specs.Unions.{AreParts}
+use Rattle.mat_union.proofs.Common.{◌≡◌, ◌∙◌, arith, length, map, subst, sym, length-map, family_union, AllBelow, IsSubset, AreParts}
 use Rattle.mat_union.proofs.PartsOfSets.{rest_below, taken_are, taken_inside, taken_more, taken_none}
 use Rattle.mat_union.proofs.SoundMatroids.{sound_at, test_is}
 use Rattle.mat_union.proofs.kept_parts.greedy_parts.Goals as goal

@@ -1,4 +1,4 @@
-use Rattle.std.proofs.Common.{map}
+use Rattle.mat_union.proofs.Common.{map}
 use Rattle.mat_union.proofs.PartsOfSets.{AreTakenSo}
 use Rattle.mat_union.proofs.kept_parts.greedy_parts.Given as goal
 

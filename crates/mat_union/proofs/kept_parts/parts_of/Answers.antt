@@ -1,5 +1,4 @@
-use Rattle.std.proofs.Common.{get_or, map, subst}
-use Rattle.mat_union.specs.Placings.{IsBrought}
+use Rattle.mat_union.proofs.Common.{get_or, map, subst, IsBrought}
 use Rattle.mat_union.proofs.PartsOfSets.{coming_in_end, coming_in_more, coming_in_none, coming_in_refused}
 use Rattle.mat_union.proofs.StuckParts.{next_below}
 use Rattle.mat_union.proofs.kept_parts.parts_of.Goals as goal

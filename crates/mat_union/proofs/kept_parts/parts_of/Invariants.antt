@@ -1,6 +1,4 @@
-use Rattle.std.proofs.Common.{map}
-use Rattle.mat_union.specs.GrownParts.{AreKept}
-use Rattle.mat_union.specs.Unions.{AreParts}
+use Rattle.mat_union.proofs.Common.{map, AreKept, AreParts}
 use Rattle.mat_union.proofs.PartsOfSets.{AreComingIn}
 use Rattle.mat_union.proofs.kept_parts.parts_of.Given as goal
 

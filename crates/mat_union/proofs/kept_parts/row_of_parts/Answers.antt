@@ -1,11 +1,4 @@
-use Rattle.std.proofs.Common.{◌∙◌, ap, length, map, subst, sym}
-use Rattle.std.proofs.lemmas.Bool.{ltb-true}
-use Rattle.std.proofs.lemmas.Result.{IfOk-weaker}
-use Rattle.mat_sets.specs.Sets.{all_below, is_member}
-use Rattle.mat_sets.proofs.Ground.{is_member-all_below}
-use Rattle.mat_union.specs.EndedSearches.{IsEnded}
-use Rattle.mat_union.specs.Moves.{exchanges_with}
-use Rattle.mat_union.specs.MoveSearches.{IsReaching}
+use Rattle.mat_union.proofs.Common.{◌∙◌, ap, length, map, subst, sym, ltb-true, IfOk-weaker, all_below, is_member, is_member-all_below, IsEnded, exchanges_with, IsReaching}
 use Rattle.mat_union.proofs.kept_parts.row_of_parts.Goals as goal
 
 pub search_from-requires-clause-among : goal.search_from-requires-clause-among

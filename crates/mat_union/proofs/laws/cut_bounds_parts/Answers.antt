@@ -1,4 +1,4 @@
-use Rattle.mat_union.specs.PartListLaws.{cut_bounds}
+use Rattle.mat_union.proofs.Common.{cut_bounds}
 use Rattle.mat_union.proofs.laws.cut_bounds_parts.Goals as goal
 
 pub returns : goal.returns

@@ -1,4 +1,4 @@
-use Rattle.mat_union.specs.UnionLaws.{union_laws}
+use Rattle.mat_union.proofs.Common.{union_laws}
 use Rattle.mat_union.proofs.laws.union_is_matroid.Goals as goal
 
 pub returns : goal.returns

@@ -1,4 +1,4 @@
-use Rattle.mat_union.specs.PartListLaws.{union_holds, union_only}
+use Rattle.mat_union.proofs.Common.{union_holds, union_only}
 use Rattle.mat_union.proofs.laws.union_means_parts.Goals as goal
 
 pub returns-clause-holds : goal.returns-clause-holds

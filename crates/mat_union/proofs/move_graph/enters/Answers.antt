@@ -1,6 +1,4 @@
-use Rattle.std.proofs.Common.{true, false, sym}
-use Rattle.mat_sets.proofs.Search.{some_below_from, some_below-next, some_below-zero}
-use Rattle.mat_union.specs.Moves.{exchanges_of}
+use Rattle.mat_union.proofs.Common.{true, false, sym, some_below_from, some_below-next, some_below-zero, exchanges_of}
 use Rattle.mat_union.proofs.GraphSteps.{adds_at}
 use Rattle.mat_union.proofs.move_graph.enters.Goals as goal
 

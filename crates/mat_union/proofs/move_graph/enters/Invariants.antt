@@ -1,5 +1,4 @@
-use Rattle.std.proofs.Common.{◌≡◌, false}
-use Rattle.mat_union.specs.Moves.{can_enter, exchanges_of}
+use Rattle.mat_union.proofs.Common.{◌≡◌, false, can_enter, exchanges_of}
 use Rattle.mat_union.proofs.move_graph.enters.Given as goal
 
 abbrev pub invariant-loop-i : goal.invariant-loop-i

@@ -1,4 +1,4 @@
-use Rattle.mat_sets.specs.Sets.{is_member}
+use Rattle.mat_union.proofs.Common.{is_member}
 use Rattle.mat_union.proofs.GraphSteps.{insert_more, insert_none}
 use Rattle.mat_union.proofs.move_graph.insert_all.Goals as goal
 

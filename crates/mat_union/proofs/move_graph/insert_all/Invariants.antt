@@ -1,5 +1,4 @@
-use Rattle.std.proofs.Common.{◌≡◌, ℕ, ◌||◌, take}
-use Rattle.mat_sets.specs.Sets.{is_member}
+use Rattle.mat_union.proofs.Common.{◌≡◌, ℕ, ◌||◌, take, is_member}
 use Rattle.mat_union.proofs.move_graph.insert_all.Given as goal
 
 abbrev pub invariant-loop-x : goal.invariant-loop-x

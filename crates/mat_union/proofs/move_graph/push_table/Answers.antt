@@ -1,5 +1,4 @@
-use Rattle.std.proofs.Common.{subst, sym}
-use Rattle.mat_union.specs.MoveGraphs.{IsPushTable}
+use Rattle.mat_union.proofs.Common.{subst, sym, IsPushTable}
 use Rattle.mat_union.proofs.GraphSteps.{table_more, table_none}
 use Rattle.mat_union.proofs.move_graph.push_table.Goals as goal
 

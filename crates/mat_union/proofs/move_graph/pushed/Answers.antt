@@ -1,7 +1,4 @@
-use Rattle.std.proofs.Common.{sym, ap, ◌∙◌}
-use Rattle.mat_sets.specs.Sets.{is_member}
-use Rattle.mat_sets.proofs.Search.{some_below-zero}
-use Rattle.mat_union.specs.Moves.{exchanges_of}
+use Rattle.mat_union.proofs.Common.{sym, ap, ◌∙◌, is_member, some_below-zero, exchanges_of}
 use Rattle.mat_union.proofs.GraphSteps.{pushed_more}
 use Rattle.mat_union.proofs.move_graph.pushed.Goals as goal
 

@@ -1,6 +1,4 @@
-use Rattle.std.proofs.Common.{◌≡◌, ℕ}
-use Rattle.mat_sets.specs.Sets.{is_member}
-use Rattle.mat_union.specs.Moves.{can_push, exchanges_of}
+use Rattle.mat_union.proofs.Common.{◌≡◌, ℕ, is_member, can_push, exchanges_of}
 use Rattle.mat_union.proofs.move_graph.pushed.Given as goal
 
 abbrev pub invariant-loop-i : goal.invariant-loop-i

@@ -1,4 +1,4 @@
-use Rattle.std.proofs.Common.{◌<◌, ◌≤◌, ◌∙◌, length, arith, sym}
+use Rattle.mat_union.proofs.Common.{◌<◌, ◌≤◌, ◌∙◌, length, arith, sym}
 use Rattle.mat_union.proofs.GraphSteps.{stands_at, stands_nowhere}
 use Rattle.mat_union.proofs.move_graph.stands.Goals as goal
 

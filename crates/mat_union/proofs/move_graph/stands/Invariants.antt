@@ -1,6 +1,4 @@
-use Rattle.std.proofs.Common.{◌≡◌, ℕ, ◌<◌, false}
-use Rattle.mat_sets.specs.Sets.{is_member}
-use Rattle.mat_union.specs.Unions.{part_at}
+use Rattle.mat_union.proofs.Common.{◌≡◌, ℕ, ◌<◌, false, is_member, part_at}
 use Rattle.mat_union.proofs.move_graph.stands.Given as goal
 
 abbrev pub invariant-loop-i : goal.invariant-loop-i

@@ -1,5 +1,4 @@
-use Rattle.std.proofs.Common.{◌≡◌, ◌+◌, ◌-◌, suc, length, refl, sym, subst, arith}
-use Rattle.mat_union.specs.MoveSearches.{AreMovesAt}
+use Rattle.mat_union.proofs.Common.{◌≡◌, ◌+◌, ◌-◌, suc, length, refl, sym, subst, arith, AreMovesAt}
 use Rattle.mat_union.proofs.MovesAlong.{moves_end, moves_more, moves_none, AreMovesSo}
 use Rattle.mat_union.proofs.move_search.moves_to.Goals as goal
 

@@ -1,6 +1,4 @@
-use Rattle.std.proofs.Common.{[], ap, sym, ◌∙◌}
-use Rattle.std.proofs.lemmas.List.{get_or_default}
-use Rattle.mat_sets.specs.Sets.{is_member}
+use Rattle.mat_union.proofs.Common.{[], ap, sym, ◌∙◌, get_or_default, is_member}
 use Rattle.mat_union.proofs.GraphSteps.{stands_more}
 use Rattle.mat_union.proofs.MovesAlong.{one_holder}
 use Rattle.mat_union.proofs.move_search.place_of.Goals as goal

@@ -1,6 +1,5 @@
 use Rattle.mat_union.proofs.Taking.{taken_all, taken_more, taken_none, without-shorter}
-use Rattle.std.proofs.lemmas.Bool.{and_parts}
-use Rattle.mat_sets.specs.Sets.{is_member}
+use Rattle.mat_union.proofs.Common.{and_parts, is_member}
 use Rattle.mat_union.proofs.move_search.take_common.Goals as goal
 
 pub loop-v-init : goal.loop-v-init

@@ -1,4 +1,4 @@
-use Rattle.std.proofs.Common.{length}
+use Rattle.mat_union.proofs.Common.{length}
 use Rattle.mat_union.proofs.Taking.{AreTakenSo}
 use Rattle.mat_union.proofs.move_search.take_common.Given as goal
 

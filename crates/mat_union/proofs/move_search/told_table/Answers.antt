@@ -1,7 +1,4 @@
-use Rattle.std.proofs.Common.{◌≡◌, ◌∙◌, ◌+◌, ◌<◌, [], length, subst, sym, arith}
-use Rattle.std.proofs.lemmas.List.{get_or_default}
-use Rattle.mat_sets.proofs.Sums.{AllBelow-at}
-use Rattle.mat_union.specs.MoveSearches.{IsToldTable}
+use Rattle.mat_union.proofs.Common.{◌≡◌, ◌∙◌, ◌+◌, ◌<◌, [], length, subst, sym, arith, get_or_default, AllBelow-at, IsToldTable}
 use Rattle.mat_union.proofs.ToldTables.{empty_table, row_put}
 use Rattle.mat_union.proofs.move_search.told_table.Goals as goal
 

@@ -1,4 +1,4 @@
-use Rattle.mat_union.specs.MoveSearches.{IsToldTable}
+use Rattle.mat_union.proofs.Common.{IsToldTable}
 use Rattle.mat_union.proofs.move_search.told_table.Given as goal
 
 abbrev pub invariant-loop-k : goal.invariant-loop-k

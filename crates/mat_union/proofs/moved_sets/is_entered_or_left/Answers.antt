@@ -1,7 +1,4 @@
-use Rattle.std.proofs.Common.{◌||◌, ◌==◌, length, sym, ◌∙◌}
-use Rattle.mat_sets.specs.Sets.{is_member}
-use Rattle.mat_sets.proofs.Search.{some_below_from, some_below-next, some_below-zero}
-use Rattle.mat_union.specs.Moves.{element_at, place_at}
+use Rattle.mat_union.proofs.Common.{◌||◌, ◌==◌, length, sym, ◌∙◌, is_member, some_below_from, some_below-next, some_below-zero, element_at, place_at}
 use Rattle.mat_union.proofs.moved_sets.is_entered_or_left.Goals as goal
 
 pub loop-i-init : goal.loop-i-init

@@ -1,7 +1,4 @@
-use Rattle.std.proofs.Common.{◌≡◌, ◌||◌, ◌==◌, false}
-use Rattle.mat_sets.specs.Sets.{is_member}
-use Rattle.mat_sets.specs.Search.{some_below}
-use Rattle.mat_union.specs.Moves.{element_at, place_at}
+use Rattle.mat_union.proofs.Common.{◌≡◌, ◌||◌, ◌==◌, false, is_member, some_below, element_at, place_at}
 use Rattle.mat_union.proofs.moved_sets.is_entered_or_left.Given as goal
 
 -- none of the first moves does

@@ -1,5 +1,4 @@
-use Rattle.std.proofs.Common.{◌≡◌, take}
-use Rattle.mat_sets.specs.Families.{family_union}
+use Rattle.mat_union.proofs.Common.{◌≡◌, take, family_union}
 use Rattle.mat_union.proofs.moved_sets.members_of.Given as goal
 
 abbrev pub invariant-loop-set : goal.invariant-loop-set

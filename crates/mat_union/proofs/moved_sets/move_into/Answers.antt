@@ -1,7 +1,4 @@
-use Rattle.std.proofs.Common.{List, [], ◌∷◌, ◌++◌, sym, ap, subst, ◌∙◌}
-use Rattle.mat_union.specs.Moves.{all_moved}
-use Rattle.mat_union.specs.Placings.{ArePlaced}
-use Rattle.mat_union.specs.declared.moves.Move.{Move}
+use Rattle.mat_union.proofs.Common.{List, [], ◌∷◌, ◌++◌, sym, ap, subst, ◌∙◌, all_moved, ArePlaced, Move}
 use Rattle.mat_union.proofs.AddedElements.{move_places}
 use Rattle.mat_union.proofs.moved_sets.move_into.Goals as goal
 

@@ -1,5 +1,4 @@
-use Rattle.std.proofs.Common.{◌∙◌, subst}
-use Rattle.mat_sets.specs.Sets.{IsRising}
+use Rattle.mat_union.proofs.Common.{◌∙◌, subst, IsRising}
 use Rattle.mat_union.proofs.MovedSets.{entering-step, union-nil}
 use Rattle.mat_union.proofs.moved_sets.moved_part.Goals as goal
 

@@ -1,6 +1,4 @@
-use Rattle.std.proofs.Common.{◌≡◌, take}
-use Rattle.mat_sets.specs.Sets.{minus, union, IsRising}
-use Rattle.mat_union.specs.Moves.{elements, entering}
+use Rattle.mat_union.proofs.Common.{◌≡◌, take, minus, union, IsRising, elements, entering}
 use Rattle.mat_union.proofs.moved_sets.moved_part.Given as goal
 
 abbrev pub invariant-loop-i : goal.invariant-loop-i

@@ -1,4 +1,4 @@
-use Rattle.std.proofs.Common.{◌∙◌}
+use Rattle.mat_union.proofs.Common.{◌∙◌}
 use Rattle.mat_union.proofs.MovedSets.{without-none, without-more}
 use Rattle.mat_union.proofs.moved_sets.without_moved.Goals as goal
 

@@ -1,6 +1,4 @@
-use Rattle.std.proofs.Common.{◌≡◌, take}
-use Rattle.mat_sets.specs.Sets.{minus, IsRising}
-use Rattle.mat_union.specs.Moves.{elements}
+use Rattle.mat_union.proofs.Common.{◌≡◌, take, minus, IsRising, elements}
 use Rattle.mat_union.proofs.moved_sets.without_moved.Given as goal
 
 abbrev pub invariant-loop-i : goal.invariant-loop-i

@@ -1,9 +1,4 @@
-use Rattle.std.proofs.Common.{◌∙◌, ◌<◌, [], ap, subst, sym}
-use Rattle.std.proofs.lemmas.List.{length-map}
-use Rattle.std.proofs.lemmas.Result.{IfOk-weaker}
-use Rattle.mat_sets.specs.Families.{family_union}
-use Rattle.mat_sets.specs.Sets.{AllBelow}
-use Rattle.mat_laws.specs.GreedyRuns.{grown_along}
+use Rattle.mat_union.proofs.Common.{◌∙◌, ◌<◌, [], ap, subst, sym, length-map, IfOk-weaker, family_union, AllBelow, grown_along}
 use Rattle.mat_union.proofs.SoundMatroids.{sound_at, test_is}
 use Rattle.mat_union.proofs.UnionRuns.{first_run_are, first_run_holds}
 use Rattle.mat_union.proofs.running.first_growth.Goals as goal

@@ -1,10 +1,4 @@
-use Rattle.std.proofs.Common.{◌<◌, ◌∙◌, ap, get_or, map, refl, subst, sym}
-use Rattle.std.proofs.lemmas.List.{length-map}
-use Rattle.std.proofs.lemmas.Result.{IfOk-weaker}
-use Rattle.mat_sets.specs.Families.{family_union}
-use Rattle.mat_sets.proofs.Sums.{AllBelow-at}
-use Rattle.mat_laws.proofs.GreedyRunSteps.{IsRunning-end}
-use Rattle.mat_union.specs.Unions.{union_test}
+use Rattle.mat_union.proofs.Common.{◌<◌, ◌∙◌, ap, get_or, map, refl, subst, sym, length-map, IfOk-weaker, family_union, AllBelow-at, IsRunning-end, union_test}
 use Rattle.mat_union.proofs.UnionRuns.{running_first, running_more}
 use Rattle.mat_union.proofs.running.run_along.Goals as goal
 

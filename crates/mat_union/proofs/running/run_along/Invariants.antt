@@ -1,8 +1,4 @@
-use Rattle.std.proofs.Common.{map}
-use Rattle.mat_sets.specs.Families.{family_union}
-use Rattle.mat_laws.proofs.GreedyRunSteps.{IsRunning}
-use Rattle.mat_union.specs.GrownParts.{AreGrowing, AreKept}
-use Rattle.mat_union.specs.Unions.{union_test}
+use Rattle.mat_union.proofs.Common.{map, family_union, IsRunning, AreGrowing, AreKept, union_test}
 use Rattle.mat_union.proofs.running.run_along.Given as goal
 
 abbrev pub invariant-loop-x : goal.invariant-loop-x

@@ -1,6 +1,4 @@
-use Rattle.std.proofs.Common.{◌∙◌, map, sym}
-use Rattle.mat_sets.specs.Families.{family_union}
-use Rattle.mat_union.specs.Unions.{union_test}
+use Rattle.mat_union.proofs.Common.{◌∙◌, map, sym, family_union, union_test}
 use Rattle.mat_union.proofs.GrowthLoops.{is_spanned}
 use Rattle.mat_union.proofs.UnionRuns.{spanned_turn, turn_stands}
 use Rattle.mat_union.proofs.running.take_turn.Goals as goal

@@ -1,6 +1,4 @@
-use Rattle.std.proofs.Common.{false}
-use Rattle.mat_sets.proofs.Search.{some_below-next, some_below-zero}
-use Rattle.mat_union.specs.Moves.{exchanges_of}
+use Rattle.mat_union.proofs.Common.{false, some_below-next, some_below-zero, exchanges_of}
 use Rattle.mat_union.proofs.GraphSteps.{adds_at}
 use Rattle.mat_union.proofs.search.entered_part.Goals as goal
 

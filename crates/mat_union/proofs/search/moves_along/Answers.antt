@@ -1,6 +1,4 @@
-use Rattle.std.proofs.Common.{◌≡◌, ◌<◌, ◌+◌, ◌-◌, ◌^◌, ◌∙◌, length, subst, sym, ap, arith}
-use Rattle.std.proofs.lemmas.Result.{IfOk-weaker}
-use Rattle.mat_union.specs.MoveSearches.{AreMovesAt}
+use Rattle.mat_union.proofs.Common.{◌≡◌, ◌<◌, ◌+◌, ◌-◌, ◌^◌, ◌∙◌, length, subst, sym, ap, arith, IfOk-weaker, AreMovesAt}
 use Rattle.mat_union.proofs.WalkMoves.{path_along, walk_some, last_enters}
 use Rattle.mat_union.proofs.search.moves_along.Goals as goal
 

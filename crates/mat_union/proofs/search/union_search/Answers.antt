@@ -1,5 +1,4 @@
-use Rattle.std.proofs.Common.{◌≡◌, length, get_or, [], ap, ◌∙◌}
-use Rattle.std.proofs.lemmas.List.{get_or_default}
+use Rattle.mat_union.proofs.Common.{◌≡◌, length, get_or, [], ap, ◌∙◌, get_or_default}
 use Rattle.mat_union.proofs.WalkMoves.{stuck_search}
 use Rattle.mat_union.proofs.search.union_search.Goals as goal
 

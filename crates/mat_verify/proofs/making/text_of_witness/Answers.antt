@@ -1,7 +1,4 @@
-use Rattle.std.proofs.lemmas.Result.{IfOk-weaker}
-use Rattle.mat_verify.specs.Witnessing.{IsShowing}
-use Rattle.mat_cert.specs.Views.{certificate_of}
-use Rattle.mat_problem.specs.Views.{instance_of}
+use Rattle.mat_verify.proofs.Common.{IfOk-weaker, IsShowing, certificate_of, instance_of}
 use Rattle.mat_witness.specs.Views.{witness_parts}
 use Rattle.mat_verify.proofs.RungAnswers.{right_rung, written_shows}
 use Rattle.mat_verify.proofs.making.text_of_witness.Goals as goal

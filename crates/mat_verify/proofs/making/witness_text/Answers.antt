@@ -1,8 +1,4 @@
-use Rattle.std.proofs.lemmas.Result.{IfErr-weaker, IfOk-weaker}
-use Rattle.std.specs.Prelude.{IfSome}
-use Rattle.mat_cert.specs.Views.{certificate_of}
-use Rattle.mat_problem.specs.Views.{instance_of}
-use Rattle.mat_judge.proofs.Told.{if_told}
+use Rattle.mat_verify.proofs.Common.{IfErr-weaker, IfOk-weaker, IfSome, certificate_of, instance_of, if_told}
 use Rattle.mat_verify.proofs.Unwitnessed.{refused_by}
 use Rattle.mat_verify.specs.WitnessOutcomes.{IsWitnessFound}
 use Rattle.mat_verify.proofs.making.witness_text.Goals as goal

@@ -1,8 +1,5 @@
-use Rattle.std.proofs.lemmas.Result.{IfErr-weaker}
-use Rattle.mat_cert.specs.Views.{certificate_of}
-use Rattle.mat_problem.specs.Views.{instance_of}
+use Rattle.mat_verify.proofs.Common.{IfErr-weaker, certificate_of, instance_of, HasNoRung}
 use Rattle.mat_judge.proofs.Judging.{test_fails}
-use Rattle.mat_verify.specs.WitnessRefusals.{HasNoRung}
 use Rattle.mat_verify.proofs.Unwitnessed.{unwitnessable_there}
 use Rattle.mat_verify.proofs.rung_answer.rung_answer_in.Goals as goal
 

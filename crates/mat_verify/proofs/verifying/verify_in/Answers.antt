@@ -1,7 +1,4 @@
-use Rattle.std.proofs.Common.{refl, inr}
-use Rattle.std.proofs.lemmas.Result.{err_from_is_err_and}
-use Rattle.mat_cert.specs.Views.{certificate_of}
-use Rattle.mat_problem.specs.Views.{instance_of}
+use Rattle.mat_verify.proofs.Common.{refl, inr, err_from_is_err_and, certificate_of, instance_of}
 use Rattle.mat_verify.proofs.Unwitnessed.{unshown_rung}
 use Rattle.mat_verify.proofs.verifying.verify_in.Goals as goal
 

@@ -1,6 +1,4 @@
-use Rattle.std.proofs.Common.{◌≡◌, ◌∙◌, List, ap, length, rules}
-use Rattle.mat_sets.specs.declared.weight.Weight.{Weight}
-use Rattle.mat_witness.specs.Demands.{demand_for}
+use Rattle.mat_witness.proofs.Common.{◌≡◌, ◌∙◌, List, ap, length, rules, Weight, demand_for}
 use Rattle.mat_witness.proofs.BoundRows.{counted_demands, counted_trees, demand_count}
 use Rattle.mat_witness.proofs.bound_rows.bound_counts.Goals as goal
 

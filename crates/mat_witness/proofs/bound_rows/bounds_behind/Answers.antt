@@ -1,5 +1,4 @@
-use Rattle.std.proofs.Common.{◌∙◌, ap, length}
-use Rattle.std.proofs.lemmas.List.{length-drop, take_rest}
+use Rattle.mat_witness.proofs.Common.{◌∙◌, ap, length, length-drop, take_rest}
 use Rattle.mat_witness.proofs.bound_rows.bounds_behind.Goals as goal
 
 pub returns-clause-rest : goal.returns-clause-rest

@@ -1,11 +1,4 @@
-use Rattle.std.proofs.Common.{◌≡◌, ◌∙◌, ℕ, ◌+◌, ◌<◌, Bool, ltb, List, [], ◌∷◌, ◌++◌, length, filter, map, take, sym, ap, subst}
-use Rattle.std.proofs.lemmas.List.{map-append, take_more}
-use Rattle.std.proofs.lemmas.List.Elements.{filter-append}
-use Rattle.mat_sets.specs.Weights.{weight_at, zero_weight}
-use Rattle.mat_sets.specs.declared.weight.Weight.{Weight}
-use Rattle.mat_sets.specs.FallingWeights.{falling_weights}
-use Rattle.mat_witness.specs.Demands.{demand_for}
-use Rattle.mat_witness.specs.Shown.{Demand, demand_at}
+use Rattle.mat_witness.proofs.Common.{◌≡◌, ◌∙◌, ℕ, ◌+◌, ◌<◌, Bool, ltb, List, [], ◌∷◌, ◌++◌, length, filter, map, take, sym, ap, subst, map-append, take_more, filter-append, weight_at, zero_weight, Weight, falling_weights, demand_for, Demand, demand_at}
 use Rattle.mat_witness.proofs.demands.demands_under.Goals as goal
 
 -- one value more

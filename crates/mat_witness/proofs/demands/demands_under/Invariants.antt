@@ -1,9 +1,5 @@
 -- The demands of the values so far are listed.
-use Rattle.std.proofs.Common.{◌≡◌, filter, ltb, map, take}
-use Rattle.mat_sets.specs.FallingWeights.{falling_weights}
-use Rattle.mat_any.specs.Trees.{Tree}
-use Rattle.mat_witness.specs.Demands.{demand_for}
-use Rattle.mat_witness.specs.Shown.{demand_at}
+use Rattle.mat_witness.proofs.Common.{◌≡◌, filter, ltb, map, take, falling_weights, Tree, demand_for, demand_at}
 use Rattle.mat_witness.proofs.demands.demands_under.Given as goal
 
 abbrev pub invariant-loop-at : goal.invariant-loop-at

@@ -1,8 +1,4 @@
-use Rattle.std.proofs.Common.{ap, subst, sym, ◌∙◌}
-use Rattle.mat_sets.specs.Sets.{IsSet, all_below, minus}
-use Rattle.mat_sets.proofs.Ground.{IsSet-all_below, IsSet-minus}
-use Rattle.mat_any.specs.Trees.{element_count}
-use Rattle.mat_any.specs.Views.{tree_of}
+use Rattle.mat_witness.proofs.Common.{ap, subst, sym, ◌∙◌, IsSet, all_below, minus, IsSet-all_below, IsSet-minus, element_count, tree_of}
 use Rattle.mat_witness.proofs.make.cut_bounds.Goals as goal
 
 pub rank_bound-requires-clause-set : goal.rank_bound-requires-clause-set

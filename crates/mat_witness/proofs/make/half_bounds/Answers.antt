@@ -1,11 +1,5 @@
-use Rattle.std.proofs.Common.{map, ap, subst, ◌∙◌}
-use Rattle.std.proofs.lemmas.List.{take_all}
+use Rattle.mat_witness.proofs.Common.{map, ap, subst, ◌∙◌, take_all, element_count, tree_of, demand_for, IsMeeting, bound_part}
 use Rattle.std.specs.List.{AllZip}
-use Rattle.mat_any.specs.Trees.{element_count}
-use Rattle.mat_any.specs.Views.{tree_of}
-use Rattle.mat_witness.specs.Demands.{demand_for}
-use Rattle.mat_witness.specs.Making.{IsMeeting}
-use Rattle.mat_witness.specs.Views.{bound_part}
 use Rattle.mat_witness.proofs.MadeWitnesses.{IsMetBy, all_are_met, filled_at, met_next}
 use Rattle.mat_witness.proofs.make.half_bounds.Goals as goal
 

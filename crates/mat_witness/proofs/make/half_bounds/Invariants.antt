@@ -1,7 +1,6 @@
 -- The bounds so far meet the demands so far.
-use Rattle.std.proofs.Common.{take}
+use Rattle.mat_witness.proofs.Common.{take, tree_of}
 use Rattle.std.specs.List.{AllZip}
-use Rattle.mat_any.specs.Views.{tree_of}
 use Rattle.mat_witness.proofs.MadeWitnesses.{IsMetBy}
 use Rattle.mat_witness.proofs.make.half_bounds.Given as goal
 

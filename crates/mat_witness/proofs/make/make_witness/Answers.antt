@@ -1,7 +1,5 @@
 -- The rung and the cut of a right answer are in range, and both matroids have witnesses; what is made of them shows the rung.
-use Rattle.std.proofs.lemmas.Result.{IfOk-weaker}
-use Rattle.mat_any.specs.Views.{tree_of}
-use Rattle.mat_witness.specs.Views.{witness_parts}
+use Rattle.mat_witness.proofs.Common.{IfOk-weaker, tree_of, witness_parts}
 use Rattle.mat_witness.proofs.MadeWitnesses.{are_witnessed, cut_inside, made_is_shown, made_is_witness, right_is_split}
 use Rattle.mat_witness.proofs.make.make_witness.Goals as goal
 

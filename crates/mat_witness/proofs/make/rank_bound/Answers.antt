@@ -1,11 +1,6 @@
-use Rattle.std.proofs.Common.{[], ap, ◌∙◌}
-use Rattle.mat_sets.proofs.Ground.{AreDistinct-rising}
+use Rattle.mat_witness.proofs.Common.{[], ap, ◌∙◌, AreDistinct-rising, rank-maximal, is_independent, tree_laws, tree_of}
 use Rattle.mat_laws.specs.GreedyRuns.{grown_along}
 use Rattle.mat_laws.proofs.GreedyRunSets.{run_maximal_of}
-use Rattle.mat_laws.proofs.RankLaws.{rank-maximal}
-use Rattle.mat_any.specs.Trees.{is_independent}
-use Rattle.mat_any.specs.TreeLaws.{tree_laws}
-use Rattle.mat_any.specs.Views.{tree_of}
 use Rattle.mat_witness.proofs.make.rank_bound.Goals as goal
 
 pub run-requires-clause-distinct : goal.run-requires-clause-distinct

@@ -1,12 +1,5 @@
-use Rattle.std.proofs.Common.{◌+◌, [], ◌∷◌, ◌++◌, map, append_assoc, ap, subst, ◌∙◌}
+use Rattle.mat_witness.proofs.Common.{◌+◌, [], ◌∷◌, ◌++◌, map, append_assoc, ap, subst, ◌∙◌, all_below, minus, rank, element_count, is_independent, tree_of, IsMeeting, demands_under, bound_part}
 use Rattle.std.specs.List.{AllZip}
-use Rattle.mat_sets.specs.Sets.{all_below, minus}
-use Rattle.mat_laws.specs.Ranks.{rank}
-use Rattle.mat_any.specs.Trees.{element_count, is_independent}
-use Rattle.mat_any.specs.Views.{tree_of}
-use Rattle.mat_witness.specs.Making.{IsMeeting}
-use Rattle.mat_witness.specs.Shown.{demands_under}
-use Rattle.mat_witness.specs.Views.{bound_part}
 use Rattle.mat_witness.proofs.MadeWitnesses.{rung_bounds_joined}
 use Rattle.mat_witness.proofs.make.rung_bounds.Goals as goal
 

@@ -1,5 +1,5 @@
 -- The first matroid is looked at in front of the second, and the bounds of both last; the first that is not met is told.
-use Rattle.std.proofs.Common.{sym, ◌∙◌}
+use Rattle.mat_witness.proofs.Common.{sym, ◌∙◌}
 use Rattle.mat_witness.proofs.SplitBounds.{behind_first, both_met, first_fails, first_fits, in_turn, last_two, second_fails, second_fits}
 use Rattle.mat_witness.proofs.verifier.failing_bounds.Goals as goal
 

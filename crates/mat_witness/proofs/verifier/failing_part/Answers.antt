@@ -1,13 +1,6 @@
 -- The rung stands in the ladder and so is in range; once its weights are told to be as many as the elements, its set and its halves fit the problem,
 -- as the tests of the parts require.
-use Rattle.std.proofs.Common.{◌≡◌, ℕ, true, eqb, ltb, List, length, get_or, refl, sym, ◌∙◌, subst}
-use Rattle.std.proofs.lemmas.Bool.{and_parts, eqb-true, ltb-true}
-use Rattle.std.proofs.lemmas.Option.{slice_get_read}
-use Rattle.mat_sets.specs.Sets.{IsSet}
-use Rattle.mat_sets.specs.declared.weight.Weight.{Weight}
-use Rattle.mat_cert.specs.Certificates.{IsRangedLadder, IsRangedPricedRung}
-use Rattle.mat_cert.specs.declared.answer.PricedRung.{PricedRung}
-use Rattle.mat_witness.specs.Shown.{is_priced}
+use Rattle.mat_witness.proofs.Common.{◌≡◌, ℕ, true, eqb, ltb, List, length, get_or, refl, sym, ◌∙◌, subst, and_parts, eqb-true, ltb-true, slice_get_read, IsSet, Weight, IsRangedLadder, IsRangedPricedRung, PricedRung, is_priced}
 use Rattle.mat_witness.proofs.verifier.failing_part.Goals as goal
 
 -- the rung is in range

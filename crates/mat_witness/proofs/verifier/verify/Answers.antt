@@ -1,6 +1,4 @@
-use Rattle.mat_any.specs.Views.{tree_of}
-use Rattle.mat_problem.specs.Instances.{pair}
-use Rattle.mat_problem.proofs.SoundProblems.{IsSoundInstance-valid}
+use Rattle.mat_witness.proofs.Common.{tree_of, pair, IsSoundInstance-valid}
 use Rattle.mat_witness.proofs.verifier.verify.Goals as goal
 
 pub failing_part-requires-clause-sound : goal.failing_part-requires-clause-sound

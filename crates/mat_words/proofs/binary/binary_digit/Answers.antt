@@ -1,5 +1,4 @@
-use Rattle.std.proofs.Common.{◌+◌, ap, sym}
-use Rattle.std.proofs.lemmas.Nat.Bits.{bit_at_above, shr_and_one}
+use Rattle.mat_words.proofs.Common.{◌+◌, ap, sym, bit_at_above, shr_and_one}
 use Rattle.mat_words.proofs.binary.binary_digit.Goals as goal
 
 pub returns-then-place-ge128 : goal.returns-then-place-ge128

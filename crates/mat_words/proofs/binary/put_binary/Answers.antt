@@ -1,6 +1,4 @@
-use Rattle.std.proofs.Common.{◌++◌, arith, rules}
-use Rattle.std.proofs.lemmas.Result.{err_from_is_err_and}
-use Rattle.mat_words.specs.Binary.{binary}
+use Rattle.mat_words.proofs.Common.{◌++◌, arith, rules, err_from_is_err_and, binary}
 use Rattle.mat_words.proofs.BinaryLaws.{digit_written, digits_written, front_of_digits}
 use Rattle.mat_words.proofs.binary.put_binary.Goals as goal
 

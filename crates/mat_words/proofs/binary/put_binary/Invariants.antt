@@ -1,5 +1,4 @@
-use Rattle.std.proofs.Common.{◌≡◌, ◌++◌}
-use Rattle.mat_words.specs.Binary.{binary}
+use Rattle.mat_words.proofs.Common.{◌≡◌, ◌++◌, binary}
 use Rattle.mat_words.proofs.binary.put_binary.Given as goal
 
 -- what stands there, and behind it the digits that are left

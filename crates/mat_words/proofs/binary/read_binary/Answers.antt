@@ -1,6 +1,5 @@
 -- The value so far is that of the digits so far; a byte that is no digit refuses the word, and few digits keep the value small.
-use Rattle.std.proofs.Common.{◌<◌, ◌∙◌, length, get_or, refl, sym, arith}
-use Rattle.std.proofs.lemmas.Bool.{eq-eqb}
+use Rattle.mat_words.proofs.Common.{◌<◌, ◌∙◌, length, get_or, refl, sym, arith, eq-eqb}
 use Rattle.mat_words.proofs.BinaryLaws.{binary-binary_value, read_none, read_more, read_refused, read_done, digit_fits}
 use Rattle.mat_words.proofs.binary.read_binary.Goals as goal
 

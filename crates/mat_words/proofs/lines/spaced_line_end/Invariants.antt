@@ -1,4 +1,4 @@
-use Rattle.std.proofs.Common.{◌≢◌, ◌<◌, ℕ, get_or}
+use Rattle.mat_words.proofs.Common.{◌≢◌, ◌<◌, ℕ, get_or}
 use Rattle.mat_words.proofs.WordLemmas.{IsWalked}
 use Rattle.mat_words.proofs.lines.spaced_line_end.Given as goal
 

@@ -1,6 +1,5 @@
-use Rattle.std.proofs.Common.{arith, drop, ◌≡◌, ◌++◌, ◌∙◌, sym}
+use Rattle.mat_words.proofs.Common.{arith, drop, ◌≡◌, ◌++◌, ◌∙◌, sym, decimal}
 use Rattle.mat_words.proofs.DigitLemmas.{nothing_written, digit_written, no_tail}
-use Rattle.mat_words.specs.Numbers.{decimal}
 use Rattle.mat_words.proofs.numbers.decimal_into.Goals as goal
 
 pub loop-left-init : goal.loop-left-init

@@ -1,5 +1,4 @@
-use Rattle.std.proofs.Common.{arith, ◌∙◌}
-use Rattle.std.proofs.lemmas.Grind.{common_steps}
+use Rattle.mat_words.proofs.Common.{arith, ◌∙◌, common_steps}
 use Rattle.mat_words.proofs.DigitLemmas.{value_step, counted}
 use Rattle.mat_words.proofs.numbers.long_magnitude.Goals as goal
 

@@ -1,6 +1,5 @@
-use Rattle.std.proofs.Common.{◌≡◌, min, take, true}
+use Rattle.mat_words.proofs.Common.{◌≡◌, min, take, true, is_digit, value_of, magnitude_bound}
 use Rattle.std.specs.List.{list_all}
-use Rattle.mat_words.specs.Numbers.{is_digit, value_of, magnitude_bound}
 use Rattle.mat_words.proofs.numbers.long_magnitude.Given as goal
 
 abbrev pub invariant-loop-c : goal.invariant-loop-c

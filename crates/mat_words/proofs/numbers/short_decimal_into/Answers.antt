@@ -1,4 +1,4 @@
-use Rattle.std.proofs.Common.{arith, drop}
+use Rattle.mat_words.proofs.Common.{arith, drop}
 use Rattle.mat_words.proofs.DigitLemmas.{nothing_written, digit_written}
 use Rattle.mat_words.proofs.numbers.short_decimal_into.Goals as goal
 

@@ -1,4 +1,4 @@
-use Rattle.std.proofs.Common.{drop}
+use Rattle.mat_words.proofs.Common.{drop}
 use Rattle.mat_words.proofs.DigitLemmas.{IsPartWritten}
 use Rattle.mat_words.proofs.numbers.short_decimal_into.Given as goal
 

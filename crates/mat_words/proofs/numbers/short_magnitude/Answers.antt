@@ -1,5 +1,4 @@
-use Rattle.std.proofs.Common.{◌-◌, ◌*◌, ◌+◌, ap, arith, get_or, sym, ◌∙◌}
-use Rattle.std.proofs.lemmas.Grind.{common_steps}
+use Rattle.mat_words.proofs.Common.{◌-◌, ◌*◌, ◌+◌, ap, arith, get_or, sym, ◌∙◌, common_steps}
 use Rattle.mat_words.proofs.DigitLemmas.{counted_short, digit_fits, value_more}
 use Rattle.mat_words.proofs.numbers.short_magnitude.Goals as goal
 

@@ -1,6 +1,5 @@
-use Rattle.std.proofs.Common.{◌≡◌, ◌<◌, ◌^◌, take, true}
+use Rattle.mat_words.proofs.Common.{◌≡◌, ◌<◌, ◌^◌, take, true, is_digit, value_of}
 use Rattle.std.specs.List.{list_all}
-use Rattle.mat_words.specs.Numbers.{is_digit, value_of}
 use Rattle.mat_words.proofs.numbers.short_magnitude.Given as goal
 
 abbrev pub invariant-loop-c : goal.invariant-loop-c

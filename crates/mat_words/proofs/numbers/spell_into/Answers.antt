@@ -1,6 +1,4 @@
-use Rattle.std.proofs.Common.{refl, ◌≡◌, ◌∷◌, [], pos, drop, set, ap, ◌∙◌, arith, ℕ, List}
-use Rattle.std.proofs.lemmas.Int.{ints}
-use Rattle.std.proofs.lemmas.List.{drop-set, drop_all}
+use Rattle.mat_words.proofs.Common.{refl, ◌≡◌, ◌∷◌, [], pos, drop, set, ap, ◌∙◌, arith, ℕ, List, ints, drop-set, drop_all}
 use Rattle.mat_words.proofs.numbers.spell_into.Goals as goal
 
 pub returns-then-n-eq0-clause-spelling : goal.returns-then-n-eq0-clause-spelling

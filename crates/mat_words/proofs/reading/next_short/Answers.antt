@@ -1,11 +1,6 @@
-use Rattle.std.proofs.Common.{◌≡◌, ◌∙◌, ◌∷◌, arith, ap, ℕ, List}
-use Rattle.std.specs.Prelude.{◌≤ℤ◌}
+use Rattle.mat_words.proofs.Common.{◌≡◌, ◌∙◌, ◌∷◌, arith, ap, ℕ, List, ◌≤ℤ◌, ints, parts_left, numeral, number_at}
 use mir.Val.{to_z, of_z}
 use mir.Syntax.{w128}
-use Rattle.std.proofs.lemmas.Int.{ints}
-use Rattle.mat_words.specs.Cursors.{parts_left}
-use Rattle.mat_words.specs.Numbers.{numeral}
-use Rattle.mat_words.specs.Reading.{number_at}
 use Rattle.mat_words.proofs.WordReading.{number_at_again}
 use Rattle.mat_words.proofs.reading.next_short.Goals as goal
 

@@ -1,9 +1,6 @@
-use Rattle.std.proofs.Common.{◌≡◌, arith, pos}
-use Rattle.std.specs.Prelude.{◌≤ℤ◌}
+use Rattle.mat_words.proofs.Common.{◌≡◌, arith, pos, ◌≤ℤ◌, ints, words_left}
 use mir.Val.{to_z, of_z}
 use mir.Syntax.{w128}
-use Rattle.std.proofs.lemmas.Int.{ints}
-use Rattle.mat_words.specs.Cursors.{words_left}
 use Rattle.mat_words.proofs.WordReading.{untied_found}
 use Rattle.mat_words.proofs.reading.next_untied.Goals as goal
 

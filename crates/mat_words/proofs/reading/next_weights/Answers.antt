@@ -1,12 +1,7 @@
 -- Each word adds a weight behind those so far; a fault of a word is the fault of the whole list.
-use Rattle.std.proofs.Common.{◌≡◌, arith}
-use Rattle.std.proofs.lemmas.Result.{err_from_is_err_and}
-use Rattle.std.proofs.lemmas.Int.{ints}
+use Rattle.mat_words.proofs.Common.{◌≡◌, arith, err_from_is_err_and, ints, words_left, repeat_at, weight_at, weights_at}
 use mir.Val.{to_z, of_z}
 use mir.Syntax.{w128}
-use Rattle.mat_words.specs.Cursors.{words_left}
-use Rattle.mat_words.specs.Steps.{repeat_at}
-use Rattle.mat_words.specs.Reading.{weight_at, weights_at}
 use Rattle.mat_words.proofs.Repeats.{repeat_more, repeat_refused, repeat_done}
 use Rattle.mat_words.proofs.reading.next_weights.Goals as goal
 

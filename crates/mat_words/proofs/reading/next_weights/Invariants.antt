@@ -1,7 +1,4 @@
-use Rattle.std.proofs.Common.{◌≡◌, ◌-◌}
-use Rattle.mat_words.specs.Cursors.{words_left}
-use Rattle.mat_words.specs.Steps.{repeat_at}
-use Rattle.mat_words.specs.Reading.{weight_at}
+use Rattle.mat_words.proofs.Common.{◌≡◌, ◌-◌, words_left, repeat_at, weight_at}
 use Rattle.mat_words.proofs.Repeats.{with_front}
 use Rattle.mat_words.proofs.reading.next_weights.Given as goal
 

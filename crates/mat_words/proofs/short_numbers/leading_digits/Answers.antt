@@ -1,5 +1,4 @@
-use Rattle.std.proofs.Common.{◌-◌, ◌*◌, ◌+◌, ap, arith, get_or, sym, ◌∙◌}
-use Rattle.std.proofs.lemmas.Grind.{common_steps}
+use Rattle.mat_words.proofs.Common.{◌-◌, ◌*◌, ◌+◌, ap, arith, get_or, sym, ◌∙◌, common_steps}
 use Rattle.mat_words.proofs.DigitLemmas.{digit_fits, short_value, value_more}
 use Rattle.mat_words.proofs.short_numbers.leading_digits.Goals as goal
 

@@ -1,6 +1,5 @@
-use Rattle.std.proofs.Common.{◌≡◌, ◌<◌, ◌^◌, take, true}
+use Rattle.mat_words.proofs.Common.{◌≡◌, ◌<◌, ◌^◌, take, true, is_digit, value_of}
 use Rattle.std.specs.List.{list_all}
-use Rattle.mat_words.specs.Numbers.{is_digit, value_of}
 use Rattle.mat_words.proofs.short_numbers.leading_digits.Given as goal
 
 abbrev pub invariant-loop-i : goal.invariant-loop-i

@@ -1,5 +1,4 @@
-use Rattle.std.proofs.Common.{arith}
-use Rattle.std.proofs.lemmas.List.{take_all}
+use Rattle.mat_words.proofs.Common.{arith, take_all}
 use Rattle.mat_words.proofs.Splitting.{split_at_byte, split_at_none}
 use Rattle.mat_words.proofs.short_numbers.left_behind.Goals as goal
 

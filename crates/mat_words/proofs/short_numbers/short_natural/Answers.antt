@@ -1,6 +1,4 @@
-use Rattle.std.proofs.Common.{◌≡◌, ◌∙◌, arith, get_or, length, pos, sym, take}
-use Rattle.std.proofs.lemmas.List.{get_or-take, length-take}
-use Rattle.mat_words.specs.Numbers.{numeral, value_of}
+use Rattle.mat_words.proofs.Common.{◌≡◌, ◌∙◌, arith, get_or, length, pos, sym, take, get_or-take, length-take, numeral, value_of}
 use Rattle.mat_words.proofs.ShortNumbers.{digits_apart, digits_numeral}
 use Rattle.mat_words.proofs.short_numbers.short_natural.Goals as goal
 

@@ -1,4 +1,4 @@
-use Rattle.std.proofs.lemmas.Result.{on_err_weaker}
+use Rattle.mat_words.proofs.Common.{on_err_weaker}
 use Rattle.mat_words.proofs.WrittenLines.{front_unchanged}
 use Rattle.mat_words.proofs.text_word.put_text_word.Goals as goal
 

@@ -1,7 +1,5 @@
-use Rattle.std.proofs.Common.{◌∷◌, take, arith}
+use Rattle.mat_words.proofs.Common.{◌∷◌, take, arith, err_from_is_err_and, text_word}
 use Rattle.std.specs.List.{flat_map}
-use Rattle.std.proofs.lemmas.Result.{err_from_is_err_and}
-use Rattle.mat_words.specs.Writing.{text_word}
 use Rattle.mat_words.proofs.WrittenLines.{item_written, words_done, front_kept}
 use Rattle.mat_words.proofs.text_word.put_words.Goals as goal
 

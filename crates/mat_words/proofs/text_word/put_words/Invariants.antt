@@ -1,6 +1,5 @@
-use Rattle.std.proofs.Common.{◌≡◌, ◌++◌, ◌∷◌, take}
+use Rattle.mat_words.proofs.Common.{◌≡◌, ◌++◌, ◌∷◌, take, text_word}
 use Rattle.std.specs.List.{flat_map}
-use Rattle.mat_words.specs.Writing.{text_word}
 use Rattle.mat_words.proofs.text_word.put_words.Given as goal
 
 -- the words so far stand there

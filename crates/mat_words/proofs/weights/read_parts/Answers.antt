@@ -1,9 +1,5 @@
-use Rattle.std.proofs.Common.{◌≡◌, ◌∷◌, rules, ap, sym, ◌∙◌, Option}
+use Rattle.mat_words.proofs.Common.{◌≡◌, ◌∷◌, rules, ap, sym, ◌∙◌, Option, Weight, number_of, ranged, is_byte, untied, tied, weight_of_parts, is_weight_between}
 use Rattle.std.specs.List.{slice_split}
-use Rattle.mat_sets.specs.declared.weight.Weight.{Weight}
-use Rattle.mat_words.specs.Numbers.{number_of, ranged}
-use Rattle.mat_words.specs.Words.{is_byte}
-use Rattle.mat_words.specs.Weights.{untied, tied, weight_of_parts, is_weight_between}
 use Rattle.mat_words.proofs.WeightLemmas.{tied_parts, weight_range}
 use Rattle.mat_words.proofs.weights.read_parts.Goals as goal
 

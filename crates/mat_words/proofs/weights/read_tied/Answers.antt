@@ -1,6 +1,4 @@
-use Rattle.std.proofs.Common.{◌≡◌, ◌≢◌, ◌∷◌, [], rules, ◌∙◌}
-use Rattle.mat_words.specs.Numbers.{number_of, in_range}
-use Rattle.mat_words.specs.Weights.{both_in}
+use Rattle.mat_words.proofs.Common.{◌≡◌, ◌≢◌, ◌∷◌, [], rules, ◌∙◌, number_of, in_range, both_in}
 use Rattle.mat_words.proofs.WeightLemmas.{both_are}
 use Rattle.mat_words.proofs.weights.read_tied.Goals as goal
 

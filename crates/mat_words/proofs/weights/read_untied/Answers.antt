@@ -1,5 +1,4 @@
-use Rattle.std.proofs.Common.{◌≡◌, Err, rules}
-use Rattle.mat_words.specs.Numbers.{number_of, in_range}
+use Rattle.mat_words.proofs.Common.{◌≡◌, Err, rules, number_of, in_range}
 use Rattle.mat_words.proofs.WeightLemmas.{untied_fails}
 use Rattle.mat_words.proofs.weights.read_untied.Goals as goal
 

@@ -1,7 +1,4 @@
-use Rattle.std.proofs.Common.{◌≡◌, ◌∙◌, Err, Ok, ap, refl, rules, sym}
-use Rattle.mat_words.specs.declared.numbers.NumberFault.TheVariants.{Range}
-use Rattle.mat_words.specs.Numbers.{number_of, ranged}
-use Rattle.mat_words.specs.Weights.{is_weight_between, untied}
+use Rattle.mat_words.proofs.Common.{◌≡◌, ◌∙◌, Err, Ok, ap, refl, rules, sym, Range, number_of, ranged, is_weight_between, untied}
 use Rattle.mat_words.proofs.WeightLemmas.{range_is_no_misspelling, read_is_no_misspelling, untied_is, weight_range}
 use Rattle.mat_words.proofs.weights.read_weight.Goals as goal
 

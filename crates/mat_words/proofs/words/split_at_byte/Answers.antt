@@ -1,4 +1,4 @@
-use Rattle.std.proofs.Common.{arith}
+use Rattle.mat_words.proofs.Common.{arith}
 use Rattle.mat_words.proofs.Splitting.{split_at_byte, split_at_none}
 use Rattle.mat_words.proofs.words.split_at_byte.Goals as goal
 

@@ -1,5 +1,4 @@
-use Rattle.std.proofs.Common.{arith}
-use Rattle.std.proofs.lemmas.Grind.{common_steps}
+use Rattle.mat_words.proofs.Common.{arith, common_steps}
 use Rattle.mat_words.proofs.WordLemmas.{stops_at_space, stops_at_other, at_line_end}
 use Rattle.mat_words.proofs.words.well_spaced.Goals as goal
 

@@ -1,4 +1,4 @@
-use Rattle.std.proofs.Common.{◌≡◌, drop, true}
+use Rattle.mat_words.proofs.Common.{◌≡◌, drop, true}
 use Rattle.mat_words.proofs.WordLemmas.{spaced_from}
 use Rattle.mat_words.proofs.words.well_spaced.Given as goal
 

@@ -1,5 +1,4 @@
-use Rattle.std.proofs.Common.{arith}
-use Rattle.std.proofs.lemmas.Grind.{common_steps}
+use Rattle.mat_words.proofs.Common.{arith, common_steps}
 use Rattle.mat_words.proofs.WordLemmas.{none_passed, word_passed, last_passed, word_found}
 use Rattle.mat_words.proofs.words.word_at.Goals as goal
 

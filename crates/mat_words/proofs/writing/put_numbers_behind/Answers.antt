@@ -1,5 +1,4 @@
-use Rattle.std.proofs.Common.{◌++◌, ◌∷◌, pos, arith, rules}
-use Rattle.mat_words.specs.Numbers.{numeral}
+use Rattle.mat_words.proofs.Common.{◌++◌, ◌∷◌, pos, arith, rules, numeral}
 use Rattle.mat_words.proofs.WrittenLines.{item_written, line_written}
 use Rattle.mat_words.proofs.writing.put_numbers_behind.Goals as goal
 

@@ -1,6 +1,5 @@
-use Rattle.std.proofs.Common.{◌≡◌, ◌++◌, ◌∷◌, take}
+use Rattle.mat_words.proofs.Common.{◌≡◌, ◌++◌, ◌∷◌, take, numeral}
 use Rattle.std.specs.List.{flat_map}
-use Rattle.mat_words.specs.Numbers.{numeral}
 use Rattle.mat_words.proofs.writing.put_numbers_behind.Given as goal
 
 -- the keyword stands there, and behind it the numbers so far

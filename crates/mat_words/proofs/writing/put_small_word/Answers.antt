@@ -1,4 +1,4 @@
-use Rattle.std.proofs.Common.{◌∙◌, ◌++◌, ◌∷◌, List, ap, arith, sym, ℕ}
+use Rattle.mat_words.proofs.Common.{◌∙◌, ◌++◌, ◌∷◌, List, ap, arith, sym, ℕ}
 use Rattle.mat_words.proofs.ShortNumbers.{one_digit, two_digits, three_digits}
 use Rattle.mat_words.proofs.writing.put_small_word.Goals as goal
 

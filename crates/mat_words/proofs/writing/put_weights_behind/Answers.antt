@@ -1,6 +1,5 @@
-use Rattle.std.proofs.Common.{◌++◌, ◌∷◌, arith, rules}
+use Rattle.mat_words.proofs.Common.{◌++◌, ◌∷◌, arith, rules, weight_word}
 use Rattle.mat_sets.specs.Weights.{zero_weight}
-use Rattle.mat_words.specs.Weights.{weight_word}
 use Rattle.mat_words.proofs.WrittenLines.{item_written, line_written}
 use Rattle.mat_words.proofs.writing.put_weights_behind.Goals as goal
 

@@ -1,6 +1,5 @@
-use Rattle.std.proofs.Common.{◌≡◌, ◌++◌, ◌∷◌, take}
+use Rattle.mat_words.proofs.Common.{◌≡◌, ◌++◌, ◌∷◌, take, weight_word}
 use Rattle.std.specs.List.{flat_map}
-use Rattle.mat_words.specs.Weights.{weight_word}
 use Rattle.mat_words.proofs.writing.put_weights_behind.Given as goal
 
 -- the keyword stands there, and behind it the weights so far

@@ -1,8 +1,4 @@
-use Rattle.std.proofs.Common.{Option, ap, subst, ◌∙◌}
-use Rattle.std.specs.Prelude.{IfSome}
-use Rattle.std.proofs.lemmas.Result.{IfOk-weaker}
-use Rattle.mat_any.specs.Parts.{IsUnited}
-use Rattle.mat_any.specs.Views.{tree_of}
+use Rattle.mat_any.proofs.Common.{Option, ap, subst, ◌∙◌, IfSome, IfOk-weaker, IsUnited, tree_of}
 use Rattle.mat_any.proofs.PartLists.{united_joined, united_test}
 use Rattle.mat_any.proofs.any.AnyMatroidMatroid.independent.Goals as goal
 

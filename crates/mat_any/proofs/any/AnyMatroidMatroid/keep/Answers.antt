@@ -1,7 +1,4 @@
-use Rattle.std.proofs.Common.{Option, ap, subst, ◌∙◌}
-use Rattle.std.specs.Prelude.{IfSome}
-use Rattle.mat_any.specs.Parts.{IsUnited}
-use Rattle.mat_any.specs.Views.{tree_of}
+use Rattle.mat_any.proofs.Common.{Option, ap, subst, ◌∙◌, IfSome, IsUnited, tree_of}
 use Rattle.mat_any.proofs.PartLists.{united_joined, united_kept, united_test}
 use Rattle.mat_any.proofs.any.AnyMatroidMatroid.keep.Goals as goal
 

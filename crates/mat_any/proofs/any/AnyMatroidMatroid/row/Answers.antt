@@ -1,8 +1,4 @@
-use Rattle.std.proofs.Common.{ap, subst, ◌∙◌}
-use Rattle.std.proofs.lemmas.Result.{IfOk-weaker}
-use Rattle.mat_laws.specs.Exchanges.{row_of}
-use Rattle.mat_any.specs.FlatUnions.{KeepsFlat}
-use Rattle.mat_any.specs.Views.{tree_of}
+use Rattle.mat_any.proofs.Common.{ap, subst, ◌∙◌, IfOk-weaker, row_of, KeepsFlat, tree_of}
 use Rattle.mat_any.proofs.PartLists.{united_joined, united_keeps, united_test}
 use Rattle.mat_any.proofs.any.AnyMatroidMatroid.row.Goals as goal
 

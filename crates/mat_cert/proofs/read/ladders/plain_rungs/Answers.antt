@@ -1,6 +1,4 @@
-use Rattle.std.proofs.lemmas.Result.{err_from_is_err_and}
-use Rattle.mat_words.specs.Cursors.{lines_left}
-use Rattle.mat_cert.specs.Reading.{plain_rung_at, rungs_at}
+use Rattle.mat_cert.proofs.Common.{err_from_is_err_and, lines_left, plain_rung_at, rungs_at}
 use Rattle.mat_cert.proofs.RungLists.{rungs_more, rungs_fail, rungs_done}
 use Rattle.mat_cert.proofs.read.ladders.plain_rungs.Goals as goal
 

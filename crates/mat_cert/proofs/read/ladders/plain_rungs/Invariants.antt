@@ -1,6 +1,4 @@
-use Rattle.std.proofs.Common.{◌≡◌}
-use Rattle.mat_words.specs.Cursors.{lines_left}
-use Rattle.mat_cert.specs.Reading.{plain_rung_at, rungs_at}
+use Rattle.mat_cert.proofs.Common.{◌≡◌, lines_left, plain_rung_at, rungs_at}
 use Rattle.mat_cert.proofs.RungLists.{rungs_left}
 use Rattle.mat_cert.proofs.read.ladders.plain_rungs.Given as goal
 

@@ -1,12 +1,5 @@
-use Rattle.std.proofs.Common.{◌∙◌, sym}
-use Rattle.std.proofs.lemmas.Result.{err_from_is_err_and}
-use Rattle.mat_words.specs.Cursors.{words_left}
+use Rattle.mat_cert.proofs.Common.{◌∙◌, sym, err_from_is_err_and, words_left, told_fails, none_left, some_left, largest_number, neg_ℤ, pos, kind_of}
 use Rattle.mat_words.specs.Reading as any_text
-use Rattle.mat_words.proofs.ReadingSteps.{told_fails}
-use Rattle.mat_words.proofs.WordReading.{none_left, some_left}
-use Rattle.mat_sets.specs.Limits.{largest_number}
-use Rattle.std.proofs.Common.{neg_ℤ, pos}
-use Rattle.mat_cert.specs.Faults.{kind_of}
 use Rattle.mat_cert.proofs.CountedLast.{weights_alone, weights_followed, weights_refused, weights_uncounted}
 use Rattle.mat_cert.proofs.read.lines.all_weights.Goals as goal
 

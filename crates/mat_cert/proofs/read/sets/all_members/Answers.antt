@@ -1,6 +1,4 @@
-use Rattle.std.proofs.Common.{◌∙◌, sym}
-use Rattle.std.proofs.lemmas.Result.{err_from_is_err_and}
-use Rattle.mat_words.specs.Cursors.{words_left}
+use Rattle.mat_cert.proofs.Common.{◌∙◌, sym, err_from_is_err_and, words_left}
 use Rattle.mat_cert.proofs.CountedLast.{members_counted, members_miscounted, members_refused, members_uncounted}
 use Rattle.mat_cert.proofs.read.sets.all_members.Goals as goal
 

@@ -1,8 +1,4 @@
-use Rattle.std.proofs.Common.{◌≡◌, ◌-◌}
-use Rattle.mat_words.specs.Cursors.{lines_left}
-use Rattle.mat_words.specs.Steps.{repeat_at}
-use Rattle.mat_words.proofs.Repeats.{with_front}
-use Rattle.mat_cert.specs.LineReading.{level_at}
+use Rattle.mat_cert.proofs.Common.{◌≡◌, ◌-◌, lines_left, repeat_at, with_front, level_at}
 use Rattle.mat_cert.proofs.read.sets.level_lines.Given as goal
 
 -- the levels so far and those that are still read are those that are read in all

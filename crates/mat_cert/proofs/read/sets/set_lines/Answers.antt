@@ -1,8 +1,4 @@
-use Rattle.std.proofs.lemmas.Result.{err_from_is_err_and}
-use Rattle.mat_words.specs.Cursors.{lines_left}
-use Rattle.mat_words.specs.Steps.{repeat_at}
-use Rattle.mat_words.proofs.Repeats.{repeat_more, repeat_refused, repeat_done}
-use Rattle.mat_cert.specs.LineReading.{set_at}
+use Rattle.mat_cert.proofs.Common.{err_from_is_err_and, lines_left, repeat_at, repeat_more, repeat_refused, repeat_done, set_at}
 use Rattle.mat_cert.proofs.read.sets.set_lines.Goals as goal
 
 pub returns-in_err-set : goal.returns-in_err-set

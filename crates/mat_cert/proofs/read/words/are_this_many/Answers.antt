@@ -1,4 +1,4 @@
-use Rattle.mat_words.specs.Cursors.{parts_left}
+use Rattle.mat_cert.proofs.Common.{parts_left}
 use Rattle.mat_cert.proofs.WordCounts.{too_few_words, right_number_of_words, too_many_words}
 use Rattle.mat_cert.proofs.read.words.are_this_many.Goals as goal
 

@@ -1,5 +1,4 @@
-use Rattle.std.proofs.Common.{◌≡◌, ◌+◌, length}
-use Rattle.mat_words.specs.Cursors.{parts_left, words_left}
+use Rattle.mat_cert.proofs.Common.{◌≡◌, ◌+◌, length, parts_left, words_left}
 use Rattle.mat_cert.proofs.read.words.are_this_many.Given as goal
 
 -- the words that are left and those that were cut off are the words of the line

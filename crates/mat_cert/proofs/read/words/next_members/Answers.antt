@@ -1,12 +1,6 @@
 -- Each number that is read goes behind the set so far if it is larger; a fault, or a number that does not rise, is the fault of the whole list.
-use Rattle.std.proofs.Common.{◌≡◌, ◌∙◌, sym, []}
-use Rattle.std.proofs.lemmas.Result.{err_from_is_err_and}
-use Rattle.mat_words.specs.Cursors.{parts_left, words_left}
-use Rattle.mat_words.proofs.ReadingSteps.{told_again, told_fails}
-use Rattle.mat_cert.specs.Faults.{refusal_of, kind_of}
-use Rattle.mat_cert.specs.LineReading.{members_from}
+use Rattle.mat_cert.proofs.Common.{◌≡◌, ◌∙◌, sym, [], err_from_is_err_and, parts_left, words_left, told_again, told_fails, refusal_of, kind_of, members_from, some_left, none_left}
 use Rattle.mat_words.specs.Reading.{below_at}
-use Rattle.mat_words.proofs.WordReading.{some_left, none_left}
 use Rattle.mat_cert.proofs.MemberLists.{members_go_on, members_fall, members_fail, members_done}
 use Rattle.mat_cert.proofs.read.words.next_members.Goals as goal
 

@@ -1,7 +1,4 @@
-use Rattle.std.proofs.Common.{◌≡◌, length}
-use Rattle.mat_sets.specs.Sets.{AllBelow}
-use Rattle.mat_words.specs.Cursors.{parts_left, words_left}
-use Rattle.mat_cert.specs.LineReading.{members_from}
+use Rattle.mat_cert.proofs.Common.{◌≡◌, length, AllBelow, parts_left, words_left, members_from}
 use Rattle.mat_cert.proofs.MemberLists.{with_members}
 use Rattle.mat_cert.proofs.read.words.next_members.Given as goal
 

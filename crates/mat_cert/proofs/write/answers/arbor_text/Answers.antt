@@ -1,9 +1,4 @@
-use Rattle.std.proofs.Common.{◌≡◌, ◌∷◌, [], codes, pos, rules}
-use Rattle.mat_words.specs.Lines.{text_of}
-use Rattle.mat_words.specs.Numbers.{numeral}
-use Rattle.mat_words.specs.Weights.{weight_word}
-use Rattle.mat_words.specs.Writing.{members_line, weights_line, end_line}
-use Rattle.mat_cert.specs.Certificates.{certificate_text}
+use Rattle.mat_cert.proofs.Common.{◌≡◌, ◌∷◌, [], codes, pos, rules, text_of, numeral, weight_word, members_line, weights_line, end_line, certificate_text}
 use Rattle.mat_cert.proofs.LineTexts.{opening, five_pieces}
 use Rattle.mat_cert.proofs.write.answers.arbor_text.Goals as goal
 

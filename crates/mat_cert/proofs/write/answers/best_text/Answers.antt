@@ -1,8 +1,4 @@
-use Rattle.std.proofs.Common.{◌≡◌, ◌∷◌, [], codes, rules}
-use Rattle.mat_words.specs.Lines.{text_of}
-use Rattle.mat_words.specs.Numbers.{numerals}
-use Rattle.mat_words.specs.Writing.{end_line}
-use Rattle.mat_cert.specs.Certificates.{rungs_lines, plain_rung_lines, last_rung, certificate_text}
+use Rattle.mat_cert.proofs.Common.{◌≡◌, ◌∷◌, [], codes, rules, text_of, numerals, end_line, rungs_lines, plain_rung_lines, last_rung, certificate_text}
 use Rattle.mat_cert.proofs.LineTexts.{opening, three_pieces}
 use Rattle.mat_cert.proofs.write.answers.best_text.Goals as goal
 

@@ -1,8 +1,4 @@
-use Rattle.std.proofs.Common.{◌≡◌, ◌∷◌, [], codes, pos, rules}
-use Rattle.mat_words.specs.Lines.{text_of}
-use Rattle.mat_words.specs.Numbers.{numeral}
-use Rattle.mat_words.specs.Writing.{end_line}
-use Rattle.mat_cert.specs.Certificates.{certificate_text}
+use Rattle.mat_cert.proofs.Common.{◌≡◌, ◌∷◌, [], codes, pos, rules, text_of, numeral, end_line, certificate_text}
 use Rattle.mat_cert.proofs.LineTexts.{opening, two_pieces}
 use Rattle.mat_cert.proofs.write.answers.pack_any_text.Goals as goal
 

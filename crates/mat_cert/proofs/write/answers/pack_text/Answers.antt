@@ -1,8 +1,4 @@
-use Rattle.std.proofs.Common.{◌≡◌, ◌∷◌, [], codes, length, rules}
-use Rattle.mat_words.specs.Lines.{text_of}
-use Rattle.mat_words.specs.Numbers.{numerals}
-use Rattle.mat_words.specs.Writing.{members_line, end_line}
-use Rattle.mat_cert.specs.Certificates.{sets_lines, certificate_text}
+use Rattle.mat_cert.proofs.Common.{◌≡◌, ◌∷◌, [], codes, length, rules, text_of, numerals, members_line, end_line, sets_lines, certificate_text}
 use Rattle.mat_cert.proofs.LineTexts.{opening, four_pieces}
 use Rattle.mat_cert.proofs.write.answers.pack_text.Goals as goal
 

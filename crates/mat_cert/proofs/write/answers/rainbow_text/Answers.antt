@@ -1,8 +1,4 @@
-use Rattle.std.proofs.Common.{◌≡◌, ◌∷◌, [], codes, rules}
-use Rattle.mat_words.specs.Lines.{text_of}
-use Rattle.mat_words.specs.Numbers.{numerals}
-use Rattle.mat_words.specs.Writing.{members_line, end_line}
-use Rattle.mat_cert.specs.Certificates.{option_lines, rungs_lines, priced_rung_lines, last_rung, certificate_text}
+use Rattle.mat_cert.proofs.Common.{◌≡◌, ◌∷◌, [], codes, rules, text_of, numerals, members_line, end_line, option_lines, rungs_lines, priced_rung_lines, last_rung, certificate_text}
 use Rattle.mat_cert.proofs.LineTexts.{opening, five_pieces}
 use Rattle.mat_cert.proofs.write.answers.rainbow_text.Goals as goal
 

@@ -1,9 +1,4 @@
-use Rattle.std.proofs.Common.{◌≡◌, ◌∷◌, [], codes, ◌++◌, length, map, rules}
-use Rattle.mat_words.specs.Lines.{text_of}
-use Rattle.mat_words.specs.Numbers.{numerals}
-use Rattle.mat_words.specs.Weights.{weight_word}
-use Rattle.mat_words.specs.Writing.{end_line}
-use Rattle.mat_cert.specs.Certificates.{sets_lines, level_line, certificate_text}
+use Rattle.mat_cert.proofs.Common.{◌≡◌, ◌∷◌, [], codes, ◌++◌, length, map, rules, text_of, numerals, weight_word, end_line, sets_lines, level_line, certificate_text}
 use Rattle.mat_cert.proofs.LineTexts.{opening, four_pieces}
 use Rattle.mat_cert.proofs.write.answers.union_text.Goals as goal
 

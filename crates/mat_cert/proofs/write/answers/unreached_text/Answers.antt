@@ -1,8 +1,4 @@
-use Rattle.std.proofs.Common.{◌≡◌, ◌∷◌, [], codes, pos, rules}
-use Rattle.mat_words.specs.Lines.{text_of}
-use Rattle.mat_words.specs.Numbers.{numeral}
-use Rattle.mat_words.specs.Writing.{members_line, end_line}
-use Rattle.mat_cert.specs.Certificates.{certificate_text}
+use Rattle.mat_cert.proofs.Common.{◌≡◌, ◌∷◌, [], codes, pos, rules, text_of, numeral, members_line, end_line, certificate_text}
 use Rattle.mat_cert.proofs.LineTexts.{opening, three_pieces}
 use Rattle.mat_cert.proofs.write.answers.unreached_text.Goals as goal
 

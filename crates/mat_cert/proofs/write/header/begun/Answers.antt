@@ -1,8 +1,4 @@
-use Rattle.std.proofs.Common.{◌∷◌, [], codes, map, rules}
-use Rattle.mat_words.specs.Lines.{text_of}
-use Rattle.mat_words.specs.Writing.{text_word}
-use Rattle.mat_words.proofs.WrittenLines.{words_written}
-use Rattle.mat_cert.specs.Certificates.{version_line}
+use Rattle.mat_cert.proofs.Common.{◌∷◌, [], codes, map, rules, text_of, text_word, words_written, version_line}
 use Rattle.mat_cert.proofs.write.header.begun.Goals as goal
 
 pub returns : goal.returns

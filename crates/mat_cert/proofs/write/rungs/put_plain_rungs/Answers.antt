@@ -1,5 +1,4 @@
-use Rattle.std.proofs.Common.{arith, rules}
-use Rattle.mat_cert.specs.Certificates.{plain_rung_lines}
+use Rattle.mat_cert.proofs.Common.{arith, rules, plain_rung_lines}
 use Rattle.mat_cert.proofs.LineTexts.{rung_written}
 use Rattle.mat_cert.proofs.write.rungs.put_plain_rungs.Goals as goal
 

@@ -1,6 +1,4 @@
-use Rattle.std.proofs.Common.{◌≡◌, ◌++◌, take}
-use Rattle.mat_words.specs.Lines.{text_of}
-use Rattle.mat_cert.specs.Certificates.{plain_rung_lines, rungs_lines}
+use Rattle.mat_cert.proofs.Common.{◌≡◌, ◌++◌, take, text_of, plain_rung_lines, rungs_lines}
 use Rattle.mat_cert.proofs.write.rungs.put_plain_rungs.Given as goal
 
 -- the lines of the rungs so far stand there

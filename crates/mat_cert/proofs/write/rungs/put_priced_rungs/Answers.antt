@@ -1,6 +1,5 @@
-use Rattle.std.proofs.Common.{arith, rules}
+use Rattle.mat_cert.proofs.Common.{arith, rules, priced_rung_lines}
 use Rattle.mat_cert.proofs.LineTexts.{rung_written}
-use Rattle.mat_cert.specs.Certificates.{priced_rung_lines}
 use Rattle.mat_cert.proofs.write.rungs.put_priced_rungs.Goals as goal
 
 pub loop-k-preserved : goal.loop-k-preserved

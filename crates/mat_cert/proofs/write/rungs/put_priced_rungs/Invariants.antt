@@ -1,6 +1,4 @@
-use Rattle.std.proofs.Common.{◌≡◌, ◌++◌, codes, take}
-use Rattle.mat_words.specs.Lines.{text_of}
-use Rattle.mat_cert.specs.Certificates.{priced_rung_lines, rungs_lines}
+use Rattle.mat_cert.proofs.Common.{◌≡◌, ◌++◌, codes, take, text_of, priced_rung_lines, rungs_lines}
 use Rattle.mat_cert.specs.Writing.{IsWeightsLine}
 use Rattle.mat_cert.proofs.write.rungs.put_priced_rungs.Given as goal
 

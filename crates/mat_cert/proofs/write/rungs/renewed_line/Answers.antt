@@ -1,9 +1,5 @@
-use Rattle.std.proofs.Common.{◌∷◌, [], List, ap, ◌∙◌}
-use Rattle.std.proofs.lemmas.Slice.Eq.{slice_eq-Decides}
-use Rattle.mat_sets.specs.declared.weight.Weight.{Weight}
+use Rattle.mat_cert.proofs.Common.{◌∷◌, [], List, ap, ◌∙◌, slice_eq-Decides, Weight, text_of, weights_line}
 use Rattle.mat_sets.proofs.WeightOrder.{same_gives, same_from}
-use Rattle.mat_words.specs.Lines.{text_of}
-use Rattle.mat_words.specs.Writing.{weights_line}
 use Rattle.mat_cert.proofs.write.rungs.renewed_line.Goals as goal
 
 pub returns-then-eq-clause-weights : goal.returns-then-eq-clause-weights

@@ -1,9 +1,4 @@
-use Rattle.std.proofs.Common.{◌++◌, ◌∷◌, ◌∙◌, [], codes, pos, append_assoc, arith, rules}
-use Rattle.mat_words.specs.Lines.{text_of}
-use Rattle.mat_words.specs.Numbers.{numeral}
-use Rattle.mat_words.specs.Weights.{weight_word}
-use Rattle.mat_words.specs.Writing.{members_line}
-use Rattle.mat_words.proofs.WrittenLines.{item_written, line_written}
+use Rattle.mat_cert.proofs.Common.{◌++◌, ◌∷◌, ◌∙◌, [], codes, pos, append_assoc, arith, rules, text_of, numeral, weight_word, members_line, item_written, line_written}
 use Rattle.mat_cert.proofs.write.sets.put_level_line.Goals as goal
 
 pub returns : goal.returns

@@ -1,7 +1,5 @@
-use Rattle.std.proofs.Common.{◌≡◌, ◌++◌, ◌∷◌, codes, pos, take}
+use Rattle.mat_cert.proofs.Common.{◌≡◌, ◌++◌, ◌∷◌, codes, pos, take, numeral, weight_word}
 use Rattle.std.specs.List.{flat_map}
-use Rattle.mat_words.specs.Numbers.{numeral}
-use Rattle.mat_words.specs.Weights.{weight_word}
 use Rattle.mat_cert.proofs.write.sets.put_level_line.Given as goal
 
 -- the keyword and the weight stand there, and behind them the members so far

@@ -1,5 +1,4 @@
-use Rattle.std.proofs.Common.{arith, rules}
-use Rattle.mat_cert.specs.Certificates.{level_line}
+use Rattle.mat_cert.proofs.Common.{arith, rules, level_line}
 use Rattle.mat_cert.proofs.LineTexts.{line_added}
 use Rattle.mat_cert.proofs.write.sets.put_level_lines.Goals as goal
 

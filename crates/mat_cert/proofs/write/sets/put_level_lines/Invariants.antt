@@ -1,6 +1,4 @@
-use Rattle.std.proofs.Common.{◌≡◌, ◌++◌, map, take}
-use Rattle.mat_words.specs.Lines.{text_of}
-use Rattle.mat_cert.specs.Certificates.{level_line}
+use Rattle.mat_cert.proofs.Common.{◌≡◌, ◌++◌, map, take, text_of, level_line}
 use Rattle.mat_cert.proofs.write.sets.put_level_lines.Given as goal
 
 -- the lines of the levels so far stand there

@@ -1,5 +1,4 @@
-use Rattle.std.proofs.Common.{arith, rules}
-use Rattle.mat_words.specs.Writing.{members_line}
+use Rattle.mat_cert.proofs.Common.{arith, rules, members_line}
 use Rattle.mat_cert.proofs.LineTexts.{line_added}
 use Rattle.mat_cert.proofs.write.sets.put_set_lines.Goals as goal
 

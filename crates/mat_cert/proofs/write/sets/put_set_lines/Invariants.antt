@@ -1,6 +1,4 @@
-use Rattle.std.proofs.Common.{◌≡◌, ◌++◌, take}
-use Rattle.mat_words.specs.Lines.{text_of}
-use Rattle.mat_cert.specs.Certificates.{sets_lines}
+use Rattle.mat_cert.proofs.Common.{◌≡◌, ◌++◌, take, text_of, sets_lines}
 use Rattle.mat_cert.proofs.write.sets.put_set_lines.Given as goal
 
 -- the lines of the sets so far stand there

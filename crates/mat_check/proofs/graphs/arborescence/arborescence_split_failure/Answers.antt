@@ -1,19 +1,6 @@
 -- The arborescence is a common independent set of the graphic matroid and of the partition matroid of the heads; behind the sums each clause says that
 -- no independent set of its size is heavier under one half.
-use Rattle.std.proofs.Common.{◌≡◌, ◌∙◌, List, ℕ, true, ap, length, map, subst, sym}
-use Rattle.mat_sets.specs.Graphs.{ends_of}
-use Rattle.mat_sets.specs.Sets.{all_below}
-use Rattle.mat_sets.specs.Weights.{weight_at}
-use Rattle.mat_sets.specs.declared.weight.Weight.{Weight}
-use Rattle.mat_laws.specs.Searches.{is_beaten}
-use Rattle.mat_count.specs.Partitions.{CappedClasses}
-use Rattle.mat_count.proofs.LabelledMatroids.{test_of}
-use Rattle.mat_graphic.specs.Forests.{is_graphic}
-use Rattle.mat_graphic.specs.declared.graphic.Graphic.{Graphic}
-use Rattle.mat_arbor.specs.Heads.{is_entering_once}
-use Rattle.mat_arbor.proofs.LeastTrees.{common_from_arborescence}
-use Rattle.mat_branch.proofs.SpanningTests.{spanning_is_told}
-use Rattle.mat_check.specs.TreeClauses.{cost_clause}
+use Rattle.mat_check.proofs.Common.{◌≡◌, ◌∙◌, List, ℕ, true, ap, length, map, subst, sym, ends_of, all_below, weight_at, Weight, is_beaten, CappedClasses, test_of, is_graphic, Graphic, is_entering_once, common_from_arborescence, spanning_is_told, cost_clause}
 use Rattle.mat_check.proofs.SplitFailures.{first_beats, none_beats, second_beats, sum_fails}
 use Rattle.mat_check.proofs.graphs.arborescence.arborescence_split_failure.Goals as goal
 

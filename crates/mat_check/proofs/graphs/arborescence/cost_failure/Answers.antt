@@ -1,5 +1,4 @@
-use Rattle.std.proofs.Common.{sym, ◌∙◌}
-use Rattle.mat_check.specs.TreeClauses.{cost_clause}
+use Rattle.mat_check.proofs.Common.{sym, ◌∙◌, cost_clause}
 use Rattle.mat_check.proofs.FailingClauses.{none_below_none, none_below_next, first_below}
 use Rattle.mat_check.proofs.graphs.arborescence.cost_failure.Goals as goal
 

@@ -1,7 +1,4 @@
-use Rattle.std.proofs.Common.{◌≡◌, map, None}
-use Rattle.mat_sets.specs.Sets.{all_below}
-use Rattle.mat_check.specs.Clauses.{first_failure}
-use Rattle.mat_check.specs.TreeClauses.{cost_clause}
+use Rattle.mat_check.proofs.Common.{◌≡◌, map, None, all_below, first_failure, cost_clause}
 use Rattle.mat_check.proofs.graphs.arborescence.cost_failure.Given as goal
 
 -- no clause of an arc so far fails

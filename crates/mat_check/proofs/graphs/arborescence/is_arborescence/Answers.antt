@@ -1,8 +1,4 @@
-use Rattle.std.proofs.Common.{◌∙◌, ℕ, List, ap}
-use Rattle.std.proofs.lemmas.Result.{IfOk-weaker}
-use Rattle.mat_sets.specs.Graphs.{ends_of}
-use Rattle.mat_branch.specs.Spanning.{is_spanning_arborescence}
-use Rattle.mat_flow.specs.Digraphs.{DirectedGraph}
+use Rattle.mat_check.proofs.Common.{◌∙◌, ℕ, List, ap, IfOk-weaker, ends_of, is_spanning_arborescence, DirectedGraph}
 use Rattle.mat_check.proofs.graphs.arborescence.is_arborescence.Goals as goal
 
 pub returns : goal.returns

@@ -1,5 +1,4 @@
-use Rattle.std.proofs.Common.{arith}
-use Rattle.mat_sets.proofs.Ground.{IsSet-length}
+use Rattle.mat_check.proofs.Common.{arith, IsSet-length}
 use Rattle.mat_check.proofs.graphs.arborescence.is_beaten_under.Goals as goal
 
 pub is_beaten-requires-clause-few : goal.is_beaten-requires-clause-few

@@ -1,5 +1,4 @@
-use Rattle.std.proofs.Common.{arith}
-use Rattle.mat_sets.proofs.Ground.{IsSet-length}
+use Rattle.mat_check.proofs.Common.{arith, IsSet-length}
 use Rattle.mat_check.proofs.graphs.arborescence.least_failure.Goals as goal
 
 pub weigh-requires-clause-few : goal.weigh-requires-clause-few

@@ -1,8 +1,4 @@
-use Rattle.std.proofs.Common.{[], ◌∷◌, length, ◌∙◌}
-use Rattle.std.proofs.lemmas.Result.{IfOk-weaker}
-use Rattle.mat_sets.specs.Graphs.{ends_of}
-use Rattle.mat_check.specs.Clauses.{numbered_clauses}
-use Rattle.mat_check.specs.TreeClauses.{arborescence_clause}
+use Rattle.mat_check.proofs.Common.{[], ◌∷◌, length, ◌∙◌, IfOk-weaker, ends_of, numbered_clauses, arborescence_clause}
 use Rattle.mat_check.proofs.TreeFailures.{each_after, of_digraph, overlap_first}
 use Rattle.mat_check.proofs.graphs.disjoint_arborescences.disjoint_failure.Goals as goal
 

@@ -1,6 +1,4 @@
-use Rattle.std.proofs.Common.{[], ◌∷◌, sym, ◌∙◌}
-use Rattle.mat_sets.specs.Graphs.{ends_of}
-use Rattle.mat_check.specs.TreeClauses.{arborescence_clause}
+use Rattle.mat_check.proofs.Common.{[], ◌∷◌, sym, ◌∙◌, ends_of, arborescence_clause}
 use Rattle.mat_check.proofs.FailingClauses.{first_of_holding}
 use Rattle.mat_check.proofs.NumberedFailures.{passed_next}
 use Rattle.mat_check.proofs.graphs.disjoint_arborescences.spanning_failure.Goals as goal

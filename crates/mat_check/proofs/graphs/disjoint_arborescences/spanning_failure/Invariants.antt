@@ -1,7 +1,5 @@
 -- No set before this is other than a spanning arborescence.
-use Rattle.std.proofs.Common.{[], ◌∷◌}
-use Rattle.mat_sets.specs.Graphs.{ends_of}
-use Rattle.mat_check.specs.TreeClauses.{arborescence_clause}
+use Rattle.mat_check.proofs.Common.{[], ◌∷◌, ends_of, arborescence_clause}
 use Rattle.mat_check.proofs.NumberedFailures.{IsPassed}
 use Rattle.mat_check.proofs.graphs.disjoint_arborescences.spanning_failure.Given as goal
 

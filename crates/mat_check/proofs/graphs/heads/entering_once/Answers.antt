@@ -1,8 +1,4 @@
-use Rattle.std.proofs.Common.{◌∙◌, ap, get_or, length, refl, arith}
-use Rattle.std.proofs.lemmas.Result.{IfOk-weaker}
-use Rattle.mat_count.proofs.LabelClasses.{length-caps_by}
-use Rattle.mat_arbor.specs.Heads.{cap_at}
-use Rattle.mat_count.proofs.LabelledMatroids.{caps_made, labels_read}
+use Rattle.mat_check.proofs.Common.{◌∙◌, ap, get_or, length, refl, arith, IfOk-weaker, length-caps_by, cap_at, caps_made, labels_read}
 use Rattle.mat_check.proofs.graphs.heads.entering_once.Goals as goal
 
 pub by_labels-requires-clause-capped : goal.by_labels-requires-clause-capped

@@ -1,4 +1,4 @@
-use Rattle.std.proofs.Common.{◌≡◌, replicate, rules}
+use Rattle.mat_check.proofs.Common.{◌≡◌, replicate, rules}
 use Rattle.mat_check.proofs.HeadCaps.{caps_by-root}
 use Rattle.mat_check.proofs.graphs.heads.head_caps.Goals as goal
 

@@ -1,10 +1,4 @@
-use Rattle.std.proofs.Common.{◌≡◌, ℕ, ◌+◌, ◌&&◌, ap, length, not, subst, sym, arith, ◌∙◌}
-use Rattle.mat_sets.specs.Graphs.{ends_of}
-use Rattle.mat_sets.specs.Search.{some_below}
-use Rattle.mat_sets.specs.Sets.{is_member}
-use Rattle.mat_union.specs.Unions.{part_at}
-use Rattle.mat_packing.specs.Trees.{stays}
-use Rattle.mat_sets.proofs.Counting.{IsCounted, IsCounted-few, IsCounted-put, IsCounted-skip, IsCounted-start}
+use Rattle.mat_check.proofs.Common.{◌≡◌, ℕ, ◌+◌, ◌&&◌, ap, length, not, subst, sym, arith, ◌∙◌, ends_of, some_below, is_member, part_at, stays, IsCounted, IsCounted-few, IsCounted-put, IsCounted-skip, IsCounted-start}
 use Rattle.mat_check.proofs.graphs.trees.crossing_count.Goals as goal
 use Rattle.mat_check.proofs.graphs.trees.crossing_count.Goals.{else-not-is_inside, then-not-is_inside}
 

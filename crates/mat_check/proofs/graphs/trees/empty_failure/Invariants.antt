@@ -1,6 +1,5 @@
 -- No class before this is empty.
-use Rattle.std.proofs.Common.{[], ◌∷◌}
-use Rattle.mat_check.specs.TreeClauses.{some_clause}
+use Rattle.mat_check.proofs.Common.{[], ◌∷◌, some_clause}
 use Rattle.mat_check.proofs.NumberedFailures.{IsPassed}
 use Rattle.mat_check.proofs.graphs.trees.empty_failure.Given as goal
 

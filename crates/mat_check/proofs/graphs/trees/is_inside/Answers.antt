@@ -1,7 +1,4 @@
-use Rattle.std.proofs.Common.{◌&&◌, [], get_or, length, sym, ap, ◌∙◌}
-use Rattle.std.proofs.lemmas.List.{get_or_default}
-use Rattle.mat_sets.specs.Sets.{is_member}
-use Rattle.mat_sets.proofs.Search.{some_below_from, some_below-next, some_below-zero}
+use Rattle.mat_check.proofs.Common.{◌&&◌, [], get_or, length, sym, ap, ◌∙◌, get_or_default, is_member, some_below_from, some_below-next, some_below-zero}
 use Rattle.mat_check.proofs.graphs.trees.is_inside.Goals as goal
 
 pub loop-q-init : goal.loop-q-init

@@ -1,7 +1,5 @@
 -- No class before this holds both.
-use Rattle.std.proofs.Common.{◌≡◌, ◌&&◌, false, [], get_or}
-use Rattle.mat_sets.specs.Search.{some_below}
-use Rattle.mat_sets.specs.Sets.{is_member}
+use Rattle.mat_check.proofs.Common.{◌≡◌, ◌&&◌, false, [], get_or, some_below, is_member}
 use Rattle.mat_check.proofs.graphs.trees.is_inside.Given as goal
 
 abbrev pub invariant-loop-q : goal.invariant-loop-q

@@ -1,5 +1,4 @@
-use Rattle.std.proofs.Common.{◌≤◌, ◌<◌, ◌-◌, ◌*◌, length, subst, sym, ◌∙◌}
-use Rattle.mat_sets.specs.Graphs.{ends_of}
+use Rattle.mat_check.proofs.Common.{◌≤◌, ◌<◌, ◌-◌, ◌*◌, length, subst, sym, ◌∙◌, ends_of}
 use Rattle.mat_check.proofs.PartitionFailures.{crossing_found, empty_found, missed_found, none_found, overlap_found}
 use Rattle.mat_check.proofs.graphs.trees.partition_failure.Goals as goal
 

@@ -1,6 +1,4 @@
-use Rattle.std.proofs.Common.{[], ◌∷◌, length, sym, ◌∙◌}
-use Rattle.mat_sets.specs.Graphs.{ends_of}
-use Rattle.mat_check.specs.TreeClauses.{tree_clause}
+use Rattle.mat_check.proofs.Common.{[], ◌∷◌, length, sym, ◌∙◌, ends_of, tree_clause}
 use Rattle.mat_check.proofs.FailingClauses.{first_of_holding}
 use Rattle.mat_check.proofs.NumberedFailures.{passed_next}
 use Rattle.mat_check.proofs.graphs.trees.tree_failure.Goals as goal

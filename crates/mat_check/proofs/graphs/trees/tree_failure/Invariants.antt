@@ -1,7 +1,5 @@
 -- No set before this is other than a spanning tree.
-use Rattle.std.proofs.Common.{[], ◌∷◌, length}
-use Rattle.mat_sets.specs.Graphs.{ends_of}
-use Rattle.mat_check.specs.TreeClauses.{tree_clause}
+use Rattle.mat_check.proofs.Common.{[], ◌∷◌, length, ends_of, tree_clause}
 use Rattle.mat_check.proofs.NumberedFailures.{IsPassed}
 use Rattle.mat_check.proofs.graphs.trees.tree_failure.Given as goal
 

@@ -1,10 +1,5 @@
 -- Rung k is in range, so that something is kept of its set, where it is independent.
-use Rattle.std.proofs.Common.{◌≡◌, ◌∙◌, length, Some, slice_get, refl, sym, subst, ap, arith}
-use Rattle.std.proofs.lemmas.List.{length_push}
-use Rattle.std.proofs.lemmas.Option.{slice_get_read}
-use Rattle.mat_sets.specs.Weights.{weight_at}
-use Rattle.mat_laws.specs.Searches.{is_beaten}
-use Rattle.mat_check.specs.Halves.{half_of}
+use Rattle.mat_check.proofs.Common.{◌≡◌, ◌∙◌, length, Some, slice_get, refl, sym, subst, ap, arith, length_push, slice_get_read, weight_at, is_beaten, half_of}
 use Rattle.mat_check.proofs.BeatenRungs.{one_more_told}
 use Rattle.mat_check.proofs.RangedHalves.{half_of_ranged}
 use Rattle.mat_check.proofs.ladder.beaten.beaten_by_exchanges.Goals as goal

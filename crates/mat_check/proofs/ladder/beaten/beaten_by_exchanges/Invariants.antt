@@ -1,6 +1,5 @@
 -- Of the rungs so far it is told whether they are beaten, and what is kept is of an independent set.
-use Rattle.std.proofs.Common.{◌≡◌, true, length}
-use Rattle.mat_check.specs.BeatenRungs.{AreJudged}
+use Rattle.mat_check.proofs.Common.{◌≡◌, true, length, AreJudged}
 use Rattle.mat_check.proofs.ladder.beaten.beaten_by_exchanges.Given as goal
 
 abbrev pub invariant-loop-k : goal.invariant-loop-k

@@ -1,6 +1,4 @@
-use Rattle.std.proofs.Common.{◌≡◌, length, Some, slice_get, refl, sym, subst, ap, arith}
-use Rattle.std.proofs.lemmas.List.{length_push}
-use Rattle.std.proofs.lemmas.Option.{slice_get_read}
+use Rattle.mat_check.proofs.Common.{◌≡◌, length, Some, slice_get, refl, sym, subst, ap, arith, length_push, slice_get_read}
 use Rattle.mat_check.proofs.BeatenRungs.{one_more_told}
 use Rattle.mat_check.proofs.ladder.beaten.beaten_by_sums.Goals as goal
 

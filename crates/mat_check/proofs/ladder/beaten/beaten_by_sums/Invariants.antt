@@ -1,6 +1,5 @@
 -- Of the rungs so far it is told whether they are beaten.
-use Rattle.std.proofs.Common.{◌≡◌, length}
-use Rattle.mat_check.specs.BeatenRungs.{AreJudged}
+use Rattle.mat_check.proofs.Common.{◌≡◌, length, AreJudged}
 use Rattle.mat_check.proofs.ladder.beaten.beaten_by_sums.Given as goal
 
 abbrev pub invariant-loop-k : goal.invariant-loop-k

@@ -1,6 +1,4 @@
-use Rattle.std.proofs.Common.{refl, arith}
-use Rattle.mat_any.specs.Trees.{element_count}
-use Rattle.mat_any.specs.Views.{tree_of}
+use Rattle.mat_check.proofs.Common.{refl, arith, element_count, tree_of}
 use Rattle.mat_check.proofs.RangedHalves.{half_ranged}
 use Rattle.mat_check.proofs.ladder.beaten.beaten_rungs.Goals as goal
 

@@ -1,8 +1,5 @@
 -- The weight of a heaviest set is there for the size of each independent set.
-use Rattle.std.proofs.Common.{◌≡◌, ◌<◌, length, get_or, ap, ◌∙◌, arith}
-use Rattle.mat_sets.specs.Weights.{weight, weight_at, is_below, zero_weight}
-use Rattle.mat_sets.proofs.Ground.{IsSet-length}
-use Rattle.mat_check.specs.Halves.{half_of}
+use Rattle.mat_check.proofs.Common.{◌≡◌, ◌<◌, length, get_or, ap, ◌∙◌, arith, weight, weight_at, is_below, zero_weight, IsSet-length, half_of}
 use Rattle.mat_check.proofs.Beating.{weight_is_there, weight_beats}
 use Rattle.mat_check.proofs.ladder.beaten.is_beaten_by_sums.Goals as goal
 

@@ -1,8 +1,4 @@
-use Rattle.std.proofs.Common.{ℕ, get_or, length, subst, sym}
-use Rattle.mat_sets.specs.Sets.{AllBelow, is_member}
-use Rattle.std.specs.Prelude.{not}
-use Rattle.mat_sets.specs.Search.{those_below}
-use Rattle.mat_sets.proofs.Search.{IsSet-those_below}
+use Rattle.mat_check.proofs.Common.{ℕ, get_or, length, subst, sym, AllBelow, is_member, not, those_below, IsSet-those_below}
 use Rattle.mat_check.proofs.ladder.colours.colours_failure.Goals as goal
 
 pub component_count-requires-clause-below : goal.component_count-requires-clause-below

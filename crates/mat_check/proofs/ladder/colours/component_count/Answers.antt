@@ -1,8 +1,4 @@
-use Rattle.std.proofs.Common.{◌∙◌, ◌<◌, ℕ, List, eqb, get_or, length, ap, subst, sym}
-use Rattle.mat_sets.specs.Graphs.{ends_of}
-use Rattle.mat_sets.specs.Search.{those_below}
-use Rattle.mat_graphic.specs.Forests.{IsLeastReached}
-use Rattle.mat_graphic.specs.declared.graphic.Graphic.{Graphic}
+use Rattle.mat_check.proofs.Common.{◌∙◌, ◌<◌, ℕ, List, eqb, get_or, length, ap, subst, sym, ends_of, those_below, IsLeastReached, Graphic}
 use Rattle.mat_check.proofs.CountedComponents.{components_counted}
 use Rattle.mat_check.proofs.ladder.colours.component_count.Goals as goal
 

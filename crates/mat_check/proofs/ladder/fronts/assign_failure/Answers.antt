@@ -1,12 +1,5 @@
-use Rattle.std.proofs.Common.{◌∙◌, ap, length, refl, subst, sym}
-use Rattle.std.proofs.lemmas.Result.{IfOk-weaker}
-use Rattle.mat_count.specs.Partitions.{CappedClasses}
-use Rattle.mat_fronts.specs.Assignments.{column_at, row_at}
+use Rattle.mat_check.proofs.Common.{◌∙◌, ap, length, refl, subst, sym, IfOk-weaker, CappedClasses, column_at, row_at, is_once, IsRangedLadder, first_failure, labels_read, test_of}
 use Rattle.mat_count.specs.Labels.{one_each}
-use Rattle.mat_fronts.specs.Once.{is_once}
-use Rattle.mat_cert.specs.Certificates.{IsRangedLadder}
-use Rattle.mat_check.specs.Clauses.{first_failure}
-use Rattle.mat_count.proofs.LabelledMatroids.{labels_read, test_of}
 use Rattle.mat_check.proofs.SameLadders.{same_ladder}
 use Rattle.mat_check.proofs.ladder.fronts.assign_failure.Goals as goal
 

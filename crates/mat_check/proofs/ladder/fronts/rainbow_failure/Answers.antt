@@ -1,10 +1,4 @@
-use Rattle.std.proofs.Common.{◌∙◌, ℕ, get_or, length, sym}
-use Rattle.std.proofs.lemmas.Result.{IfOk-weaker}
-use Rattle.mat_sets.specs.Graphs.{ends_of}
-use Rattle.mat_graphic.specs.Forests.{is_graphic}
-use Rattle.mat_fronts.specs.Once.{is_once}
-use Rattle.mat_check.specs.Clauses.{ladder_clauses}
-use Rattle.mat_check.specs.TreeClauses.{colours_clauses}
+use Rattle.mat_check.proofs.Common.{◌∙◌, ℕ, get_or, length, sym, IfOk-weaker, ends_of, is_graphic, is_once, ladder_clauses, colours_clauses}
 use Rattle.mat_check.proofs.FailingClauses.{first_in_back, first_in_front}
 use Rattle.mat_check.proofs.ladder.fronts.rainbow_failure.Goals as goal
 

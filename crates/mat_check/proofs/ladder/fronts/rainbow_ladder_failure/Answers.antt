@@ -1,13 +1,4 @@
-use Rattle.std.proofs.Common.{◌∙◌, ℕ, List, ap, get_or, length, subst, sym}
-use Rattle.std.proofs.lemmas.Result.{IfOk-weaker}
-use Rattle.mat_sets.specs.Graphs.{ends_of}
-use Rattle.mat_count.specs.Partitions.{CappedClasses}
-use Rattle.mat_graphic.specs.Forests.{is_graphic}
-use Rattle.mat_graphic.specs.declared.graphic.Graphic.{Graphic}
-use Rattle.mat_fronts.specs.Once.{is_once}
-use Rattle.mat_cert.specs.Certificates.{IsRangedLadder}
-use Rattle.mat_check.specs.Clauses.{first_failure}
-use Rattle.mat_count.proofs.LabelledMatroids.{test_of}
+use Rattle.mat_check.proofs.Common.{◌∙◌, ℕ, List, ap, get_or, length, subst, sym, IfOk-weaker, ends_of, CappedClasses, is_graphic, Graphic, is_once, IsRangedLadder, first_failure, test_of}
 use Rattle.mat_check.proofs.SameLadders.{same_ladder}
 use Rattle.mat_check.proofs.ladder.fronts.rainbow_ladder_failure.Goals as goal
 

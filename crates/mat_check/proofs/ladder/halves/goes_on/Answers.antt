@@ -1,7 +1,5 @@
-use Rattle.std.proofs.Common.{◌<◌, ◌-◌, length, slice_index_or, refl, sym, ◌∙◌, arith}
-use Rattle.std.proofs.lemmas.Option.{slice_get_read}
+use Rattle.mat_check.proofs.Common.{◌<◌, ◌-◌, length, slice_index_or, refl, sym, ◌∙◌, arith, slice_get_read, same_gives, same_from}
 use Rattle.std.proofs.lemmas.Slice.Eq.{slice_eq-Decides}
-use Rattle.mat_sets.proofs.WeightOrder.{same_gives, same_from}
 use Rattle.mat_check.proofs.RangedHalves.{half_at-read, some_items}
 use Rattle.mat_check.proofs.ladder.halves.goes_on.Goals as goal
 

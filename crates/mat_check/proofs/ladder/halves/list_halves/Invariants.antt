@@ -1,6 +1,5 @@
 -- The halves of the rungs so far are listed, and no more than these.
-use Rattle.std.proofs.Common.{◌≡◌, ◌≤◌, length}
-use Rattle.mat_check.specs.Halves.{AreListed, halves_of}
+use Rattle.mat_check.proofs.Common.{◌≡◌, ◌≤◌, length, AreListed, halves_of}
 use Rattle.mat_check.proofs.ladder.halves.list_halves.Given as goal
 
 abbrev pub invariant-loop-k : goal.invariant-loop-k

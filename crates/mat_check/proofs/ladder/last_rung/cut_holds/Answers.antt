@@ -1,6 +1,4 @@
-use Rattle.std.proofs.Common.{subst, sym, ◌∙◌, ap}
-use Rattle.mat_sets.specs.Sets.{AllBelow, all_below, minus}
-use Rattle.mat_sets.proofs.Ground.{IsSet-minus, IsSet-all_below}
+use Rattle.mat_check.proofs.Common.{subst, sym, ◌∙◌, ap, AllBelow, all_below, minus, IsSet-minus, IsSet-all_below}
 use Rattle.mat_check.proofs.ladder.last_rung.cut_holds.Goals as goal
 
 pub rank_of-requires-clause-below : goal.rank_of-requires-clause-below

@@ -1,4 +1,4 @@
-use Rattle.std.proofs.Common.{sym, ◌∙◌}
+use Rattle.mat_check.proofs.Common.{sym, ◌∙◌}
 use Rattle.mat_check.proofs.LastRung.{last_clause_fails, last_clause_holds, last_is}
 use Rattle.mat_check.proofs.ladder.last_rung.last_failure.Goals as goal
 

@@ -1,12 +1,5 @@
 -- The clauses come in turn: the sums of the halves, then whether the set is beaten under the first half, then under the second.
-use Rattle.std.proofs.Common.{◌≡◌, ◌∙◌, ℕ, Bool, List, ap, length, map, sym}
-use Rattle.mat_sets.specs.Sets.{all_below}
-use Rattle.mat_sets.specs.Weights.{weight_at}
-use Rattle.mat_sets.specs.declared.weight.Weight.{Weight}
-use Rattle.mat_laws.specs.Searches.{is_beaten}
-use Rattle.mat_any.specs.Trees.{is_independent}
-use Rattle.mat_any.specs.Views.{tree_of}
-use Rattle.mat_check.specs.Clauses.{sum_clause}
+use Rattle.mat_check.proofs.Common.{◌≡◌, ◌∙◌, ℕ, Bool, List, ap, length, map, sym, all_below, weight_at, Weight, is_beaten, is_independent, tree_of, sum_clause}
 use Rattle.mat_check.proofs.SplitFailures.{first_beats, none_beats, second_beats, sum_fails}
 use Rattle.mat_check.proofs.ladder.rung.split_failure.Goals as goal
 

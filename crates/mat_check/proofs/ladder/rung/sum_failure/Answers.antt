@@ -1,6 +1,4 @@
-use Rattle.std.proofs.Common.{length, sym, arith}
-use Rattle.std.proofs.lemmas.Bool.{not-false, not-true}
-use Rattle.mat_check.specs.Clauses.{sum_clause}
+use Rattle.mat_check.proofs.Common.{length, sym, arith, not-false, not-true, sum_clause}
 use Rattle.mat_check.proofs.FailingClauses.{first_below, none_below}
 use Rattle.mat_check.proofs.ladder.rung.sum_failure.Goals as goal
 

@@ -1,6 +1,4 @@
-use Rattle.std.proofs.Common.{◌<◌, ◌∙◌, map, sym, subst}
-use Rattle.mat_work.specs.Rows.{StandFrom}
-use Rattle.mat_check.specs.Halves.{halves_of, half_at, AreSumsUnder}
+use Rattle.mat_check.proofs.Common.{◌<◌, ◌∙◌, map, sym, subst, StandFrom, halves_of, half_at, AreSumsUnder}
 use Rattle.mat_check.proofs.ListedHalves.{sums_of_rung}
 use Rattle.mat_check.proofs.ladder.rung_sums.rung_sums.Goals as goal
 

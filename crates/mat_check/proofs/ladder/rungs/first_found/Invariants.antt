@@ -1,6 +1,5 @@
 -- No failure was passed over.
-use Rattle.std.proofs.Common.{◌≡◌, drop}
-use Rattle.mat_check.specs.RungFailures.{first_in_order}
+use Rattle.mat_check.proofs.Common.{◌≡◌, drop, first_in_order}
 use Rattle.mat_check.proofs.ladder.rungs.first_found.Given as goal
 
 abbrev pub invariant-loop-failure : goal.invariant-loop-failure

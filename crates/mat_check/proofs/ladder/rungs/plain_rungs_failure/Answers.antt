@@ -1,8 +1,4 @@
-use Rattle.std.proofs.Common.{◌∙◌, length, ap, arith}
-use Rattle.mat_any.specs.Trees.{is_independent}
-use Rattle.mat_any.specs.Views.{tree_of}
-use Rattle.mat_check.specs.Clauses.{plain_rung_clauses}
-use Rattle.mat_check.specs.RungFailures.{first_in_order}
+use Rattle.mat_check.proofs.Common.{◌∙◌, length, ap, arith, is_independent, tree_of, plain_rung_clauses, first_in_order}
 use Rattle.mat_check.proofs.RungFailures.{first_of_found, length-rungs_failures}
 use Rattle.mat_check.proofs.ladder.rungs.plain_rungs_failure.Goals as goal
 

@@ -1,9 +1,4 @@
-use Rattle.std.proofs.Common.{◌∙◌, length, ap, arith, subst}
-use Rattle.mat_any.specs.Trees.{is_independent}
-use Rattle.mat_any.specs.Views.{tree_of}
-use Rattle.mat_cert.specs.Certificates.{AreRangedRungs, IsRangedPricedRung}
-use Rattle.mat_check.specs.Clauses.{priced_rung_clauses}
-use Rattle.mat_check.specs.RungFailures.{first_in_order}
+use Rattle.mat_check.proofs.Common.{◌∙◌, length, ap, arith, subst, is_independent, tree_of, AreRangedRungs, IsRangedPricedRung, priced_rung_clauses, first_in_order}
 use Rattle.mat_check.proofs.RungFailures.{first_of_found, length-rungs_failures}
 use Rattle.mat_check.proofs.ladder.rungs.priced_rungs_failure.Goals as goal
 

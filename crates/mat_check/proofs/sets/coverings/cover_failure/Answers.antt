@@ -1,6 +1,4 @@
-use Rattle.std.proofs.Common.{length, sym, ◌∙◌}
-use Rattle.std.proofs.lemmas.Result.{IfOk-weaker}
-use Rattle.mat_check.specs.SetClauses.{cover_cut_clauses, missed_clauses}
+use Rattle.mat_check.proofs.Common.{length, sym, ◌∙◌, IfOk-weaker, cover_cut_clauses, missed_clauses}
 use Rattle.mat_check.proofs.JoinedClauses.{in_first, in_second, in_third}
 use Rattle.mat_check.proofs.RightPackings.{all_sets}
 use Rattle.mat_check.proofs.sets.coverings.cover_failure.Goals as goal

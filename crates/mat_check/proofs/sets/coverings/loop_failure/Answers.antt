@@ -1,5 +1,4 @@
-use Rattle.std.proofs.Common.{[], sym, ◌∙◌}
-use Rattle.mat_check.specs.SetClauses.{loop_clause}
+use Rattle.mat_check.proofs.Common.{[], sym, ◌∙◌, loop_clause}
 use Rattle.mat_check.proofs.FailingClauses.{first_of_failing, first_of_holding}
 use Rattle.mat_check.proofs.sets.coverings.loop_failure.Goals as goal
 

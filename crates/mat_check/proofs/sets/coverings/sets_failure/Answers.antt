@@ -1,4 +1,4 @@
-use Rattle.std.proofs.Common.{sym, ◌∙◌}
+use Rattle.mat_check.proofs.Common.{sym, ◌∙◌}
 use Rattle.mat_check.proofs.NumberedFailures.{fails_at, passed_next}
 use Rattle.mat_check.proofs.RightPackings.{set_clauses}
 use Rattle.mat_check.proofs.sets.coverings.sets_failure.Goals as goal

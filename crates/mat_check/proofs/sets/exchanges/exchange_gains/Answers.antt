@@ -1,10 +1,6 @@
 -- A member gains nothing, nor does an element that weighs no more than any member; another element can take
 -- the places of the members that its row has.
-use Rattle.std.proofs.Common.{◌∙◌, sym, subst, ap}
-use Rattle.mat_sets.specs.Sets.{AllBelow}
-use Rattle.mat_sets.specs.Weights.{weight_at}
-use Rattle.mat_laws.proofs.Independent.{below}
-use Rattle.mat_check.specs.Exchanges.{has_lighter}
+use Rattle.mat_check.proofs.Common.{◌∙◌, sym, subst, ap, AllBelow, weight_at, below, has_lighter}
 use Rattle.mat_check.proofs.GainingExchanges.{light_gains_nothing, member_gains_nothing, row_below, row_gains}
 use Rattle.mat_check.proofs.sets.exchanges.exchange_gains.Goals as goal
 

@@ -1,4 +1,4 @@
-use Rattle.std.proofs.Common.{◌∙◌}
+use Rattle.mat_check.proofs.Common.{◌∙◌}
 use Rattle.mat_check.proofs.sets.exchanges.has_lighter.Goals as goal
 
 pub returns : goal.returns

@@ -1,11 +1,5 @@
 -- An exchange that gains makes a heavier set of the same size, and where none gains the set is heaviest of its size.
-use Rattle.std.proofs.Common.{◌≡◌, ◌∙◌, false, length, sym, subst, arith}
-use Rattle.mat_sets.specs.Search.{some_below}
-use Rattle.mat_sets.specs.Sets.{AllBelow}
-use Rattle.mat_sets.specs.Weights.{weight_at}
-use Rattle.mat_sets.proofs.Search.{some_below-next, some_below-zero}
-use Rattle.mat_laws.proofs.Independent.{below}
-use Rattle.mat_check.specs.Exchanges.{exchange_gains, IsLeastWeightOrNone}
+use Rattle.mat_check.proofs.Common.{◌≡◌, ◌∙◌, false, length, sym, subst, arith, some_below, AllBelow, weight_at, some_below-next, some_below-zero, below, exchange_gains, IsLeastWeightOrNone}
 use Rattle.mat_check.proofs.GainingExchanges.{gain_beats, no_gain_is_fair}
 use Rattle.mat_check.proofs.sets.exchanges.is_beaten_by_exchange.Goals as goal
 

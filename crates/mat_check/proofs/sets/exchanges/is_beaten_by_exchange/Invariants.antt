@@ -1,8 +1,5 @@
 -- No exchange gains for the elements so far.
-use Rattle.std.proofs.Common.{◌≡◌, false}
-use Rattle.mat_sets.specs.Search.{some_below}
-use Rattle.mat_sets.specs.Weights.{weight_at}
-use Rattle.mat_check.specs.Exchanges.{exchange_gains}
+use Rattle.mat_check.proofs.Common.{◌≡◌, false, some_below, weight_at, exchange_gains}
 use Rattle.mat_check.proofs.sets.exchanges.is_beaten_by_exchange.Given as goal
 
 abbrev pub invariant-loop-x : goal.invariant-loop-x

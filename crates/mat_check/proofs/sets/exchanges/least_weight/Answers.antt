@@ -1,7 +1,4 @@
-use Rattle.std.proofs.Common.{◌+◌, length, sym, subst, take}
-use Rattle.mat_sets.specs.Weights.{weight_at}
-use Rattle.mat_sets.proofs.Sums.{AllBelow-at}
-use Rattle.mat_check.specs.Exchanges.{IsLeastWeightOrNone}
+use Rattle.mat_check.proofs.Common.{◌+◌, length, sym, subst, take, weight_at, AllBelow-at, IsLeastWeightOrNone}
 use Rattle.mat_check.proofs.GainingExchanges.{least_of_all, least_of_more, least_of_none}
 use Rattle.mat_check.proofs.sets.exchanges.least_weight.Goals as goal
 

@@ -1,7 +1,5 @@
 -- The least weight of the elements so far.
-use Rattle.std.proofs.Common.{take}
-use Rattle.mat_sets.specs.Weights.{weight_at}
-use Rattle.mat_check.specs.Exchanges.{IsLeastWeightOrNone}
+use Rattle.mat_check.proofs.Common.{take, weight_at, IsLeastWeightOrNone}
 use Rattle.mat_check.proofs.sets.exchanges.least_weight.Given as goal
 
 abbrev pub invariant-loop-y : goal.invariant-loop-y

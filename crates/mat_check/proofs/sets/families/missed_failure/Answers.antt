@@ -1,4 +1,4 @@
-use Rattle.std.proofs.Common.{sym, ◌∙◌}
+use Rattle.mat_check.proofs.Common.{sym, ◌∙◌}
 use Rattle.mat_check.proofs.FailingClauses.{none_below_none, none_below_next, first_below}
 use Rattle.mat_check.proofs.Multiplicities.{missed_clause}
 use Rattle.mat_check.proofs.sets.families.missed_failure.Goals as goal

@@ -1,7 +1,5 @@
 -- No clause of an element so far fails.
-use Rattle.std.proofs.Common.{◌≡◌, map, None}
-use Rattle.mat_sets.specs.Sets.{all_below}
-use Rattle.mat_check.specs.Clauses.{first_failure}
+use Rattle.mat_check.proofs.Common.{◌≡◌, map, None, all_below, first_failure}
 use Rattle.mat_check.proofs.Multiplicities.{missed_clause}
 use Rattle.mat_check.proofs.sets.families.missed_failure.Given as goal
 

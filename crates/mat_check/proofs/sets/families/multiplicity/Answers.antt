@@ -1,7 +1,4 @@
-use Rattle.std.proofs.Common.{[], ap, ◌∙◌, arith}
-use Rattle.std.proofs.lemmas.List.{get_or_default}
-use Rattle.mat_sets.specs.Families.{indicator}
-use Rattle.mat_sets.specs.Sets.{is_member}
+use Rattle.mat_check.proofs.Common.{[], ap, ◌∙◌, arith, get_or_default, indicator, is_member}
 use Rattle.mat_check.proofs.Multiplicities.{counted_next, counted_none}
 use Rattle.mat_check.proofs.sets.families.multiplicity.Goals as goal
 

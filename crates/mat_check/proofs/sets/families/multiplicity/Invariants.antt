@@ -1,5 +1,5 @@
 -- The first i sets are counted, and no more than there are of them.
-use Rattle.std.proofs.Common.{◌≤◌}
+use Rattle.mat_check.proofs.Common.{◌≤◌}
 use Rattle.mat_check.proofs.Multiplicities.{IsCounted}
 use Rattle.mat_check.proofs.sets.families.multiplicity.Given as goal
 

@@ -1,4 +1,4 @@
-use Rattle.std.proofs.Common.{map, sym, ◌∙◌}
+use Rattle.mat_check.proofs.Common.{map, sym, ◌∙◌}
 use Rattle.mat_check.proofs.LevelFailures.{level_fails, level_fails_inside, level_is_clear}
 use Rattle.mat_check.proofs.sets.levels.level_failure.Goals as goal
 

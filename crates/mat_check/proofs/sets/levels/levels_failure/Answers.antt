@@ -1,5 +1,4 @@
-use Rattle.std.proofs.Common.{length, map, sym, ◌∙◌}
-use Rattle.mat_check.specs.SetClauses.{level_clauses}
+use Rattle.mat_check.proofs.Common.{length, map, sym, ◌∙◌, level_clauses}
 use Rattle.mat_check.proofs.NumberedFailures.{fails_at, passed_next}
 use Rattle.mat_check.proofs.sets.levels.levels_failure.Goals as goal
 

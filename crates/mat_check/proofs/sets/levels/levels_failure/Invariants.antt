@@ -1,6 +1,5 @@
 -- No clause of a level so far fails.
-use Rattle.std.proofs.Common.{length, map}
-use Rattle.mat_check.specs.SetClauses.{level_clauses}
+use Rattle.mat_check.proofs.Common.{length, map, level_clauses}
 use Rattle.mat_check.proofs.NumberedFailures.{IsPassed}
 use Rattle.mat_check.proofs.sets.levels.levels_failure.Given as goal
 

@@ -1,6 +1,4 @@
-use Rattle.std.proofs.Common.{length, sym, subst}
-use Rattle.mat_sets.specs.Sets.{AllBelow}
-use Rattle.mat_sets.proofs.Sums.{AllBelow-at}
+use Rattle.mat_check.proofs.Common.{length, sym, subst, AllBelow, AllBelow-at}
 use Rattle.mat_check.proofs.sets.levels.outside_failure.Goals as goal
 
 pub is_lighter-requires : goal.is_lighter-requires

@@ -1,5 +1,5 @@
 -- No clause of a member so far fails.
-use Rattle.mat_check.specs.SetClauses.{outside_clause}
+use Rattle.mat_check.proofs.Common.{outside_clause}
 use Rattle.mat_check.proofs.NumberedFailures.{IsClear}
 use Rattle.mat_check.proofs.sets.levels.outside_failure.Given as goal
 

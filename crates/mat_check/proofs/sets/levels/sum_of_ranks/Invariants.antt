@@ -1,5 +1,5 @@
 -- The ranks so far are added.
-use Rattle.std.proofs.Common.{◌≤◌, ◌*◌, ◌^◌}
+use Rattle.mat_check.proofs.Common.{◌≤◌, ◌*◌, ◌^◌}
 use Rattle.mat_check.proofs.AddedRanks.{AreAdded}
 use Rattle.mat_check.proofs.sets.levels.sum_of_ranks.Given as goal
 

@@ -1,6 +1,5 @@
 -- The clauses come in turn: the bases are disjoint, each is a base, and the cut shows that there are no more; the first that fails is told.
-use Rattle.std.proofs.Common.{[], length, sym, ◌∙◌}
-use Rattle.mat_check.specs.SetClauses.{overlap_clauses, packing_cut_clause}
+use Rattle.mat_check.proofs.Common.{[], length, sym, ◌∙◌, overlap_clauses, packing_cut_clause}
 use Rattle.mat_check.proofs.FailingClauses.{first_of_failing, first_of_holding}
 use Rattle.mat_check.proofs.JoinedClauses.{in_first, in_second, in_third}
 use Rattle.mat_check.proofs.RightPackings.{all_bases, packing_end}

@@ -1,4 +1,4 @@
-use Rattle.std.proofs.Common.{subst, ◌<◌}
+use Rattle.mat_check.proofs.Common.{subst, ◌<◌}
 use Rattle.mat_check.proofs.Adding.{IsTrying-start, IsTrying-found, IsTrying-next}
 use Rattle.mat_check.proofs.sets.searches.has_addable.Goals as goal
 

@@ -1,5 +1,4 @@
-use Rattle.std.proofs.Common.{◌≡◌, ◌<◌, length, get_or, subst, sym, ap, ◌∙◌}
-use Rattle.mat_sets.specs.Weights.{weight, weight_at, is_below, zero_weight}
+use Rattle.mat_check.proofs.Common.{◌≡◌, ◌<◌, length, get_or, subst, sym, ap, ◌∙◌, weight, weight_at, is_below, zero_weight}
 use Rattle.mat_check.proofs.Beating.{weight_is_there, weight_beats}
 use Rattle.mat_check.proofs.sets.searches.is_beaten.Goals as goal
 

@@ -1,8 +1,5 @@
-use Rattle.std.proofs.Common.{◌<◌, [], ◌∷◌, map, sym, subst, ap, ◌∙◌}
-use Rattle.mat_union.specs.Unions.{test_at}
+use Rattle.mat_check.proofs.Common.{◌<◌, [], ◌∷◌, map, sym, subst, ap, ◌∙◌, test_at, first_failure, independent_clause}
 use Rattle.mat_union.proofs.SoundMatroids.{test_is}
-use Rattle.mat_check.specs.Clauses.{first_failure}
-use Rattle.mat_check.specs.SetClauses.{independent_clause}
 use Rattle.mat_check.proofs.NumberedFailures.{passed_next}
 use Rattle.mat_check.proofs.sets.unions.parts_failure.Goals as goal
 

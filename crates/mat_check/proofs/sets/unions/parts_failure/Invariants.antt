@@ -1,7 +1,5 @@
 -- No part so far is dependent.
-use Rattle.std.proofs.Common.{[], ◌∷◌, map}
-use Rattle.mat_union.specs.Unions.{test_at}
-use Rattle.mat_check.specs.SetClauses.{independent_clause}
+use Rattle.mat_check.proofs.Common.{[], ◌∷◌, map, test_at, independent_clause}
 use Rattle.mat_check.proofs.NumberedFailures.{IsPassed}
 use Rattle.mat_check.proofs.sets.unions.parts_failure.Given as goal
 

@@ -1,7 +1,4 @@
-use Rattle.std.proofs.Common.{◌∙◌, length, map, subst, sym}
-use Rattle.std.proofs.lemmas.Result.{IfOk-weaker}
-use Rattle.mat_sets.specs.Sets.{IsSet}
-use Rattle.mat_sets.proofs.Families.{IsSet-family_union}
+use Rattle.mat_check.proofs.Common.{◌∙◌, length, map, subst, sym, IfOk-weaker, IsSet, IsSet-family_union}
 use Rattle.mat_check.proofs.UnionFailures.{levels_are_left, part_depends, union_overlaps, weight_fails}
 use Rattle.mat_check.proofs.sets.unions.union_failure.Goals as goal
 

@@ -1,9 +1,5 @@
-use Rattle.std.proofs.Common.{◌≡◌, ◌<◌, sym, ap, ◌∙◌, subst, [], length, get_or, None, is_some}
-use Rattle.std.proofs.lemmas.List.{get_or_default}
-use Rattle.std.specs.Prelude.{⊤, MatchOption}
+use Rattle.mat_count.proofs.Common.{◌≡◌, ◌<◌, sym, ap, ◌∙◌, subst, [], length, get_or, None, is_some, get_or_default, ⊤, MatchOption, intersection, row_at_place}
 use Rattle.mat_sets.proofs.Equalities.{intersection-commute}
-use Rattle.mat_sets.specs.Sets.{intersection}
-use Rattle.mat_count.specs.FullSets.{row_at_place}
 use Rattle.mat_count.proofs.FullSetRows.{row_where_full}
 use Rattle.mat_count.proofs.full_sets.FullSets.row_at.Goals as goal
 

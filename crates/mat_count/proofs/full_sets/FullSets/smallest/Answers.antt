@@ -1,5 +1,4 @@
-use Rattle.std.proofs.Common.{◌+◌, ◌<◌, ◌∙◌, sym, ap, length, get_or, subst}
-use Rattle.mat_sets.proofs.Sums.{AllBelow-at}
+use Rattle.mat_count.proofs.Common.{◌+◌, ◌<◌, ◌∙◌, sym, ap, length, get_or, subst, AllBelow-at}
 use Rattle.mat_count.proofs.KeptSets.{IsLooking, IsLooking-found, IsLooking-passed}
 use Rattle.mat_count.proofs.full_sets.FullSets.smallest.Goals as goal
 use Rattle.mat_count.proofs.full_sets.FullSets.smallest.Goals.{then-has_fewer, else-has_fewer}

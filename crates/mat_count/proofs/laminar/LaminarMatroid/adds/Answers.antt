@@ -1,5 +1,4 @@
-use Rattle.std.proofs.Common.{◌∙◌, ap, refl}
-use Rattle.mat_laws.specs.declared.exchange.Exchange.{Exchange}
+use Rattle.mat_count.proofs.Common.{◌∙◌, ap, refl, Exchange}
 use Rattle.mat_count.proofs.FullSetRows.{places_kept, row_at_smallest}
 use Rattle.mat_count.proofs.laminar.LaminarMatroid.adds.Goals as goal
 

@@ -1,7 +1,4 @@
-use Rattle.std.proofs.Common.{◌≡◌, subst}
-use Rattle.mat_sets.specs.Sets.{AllBelow}
-use Rattle.mat_count.specs.Counts.{is_counted}
-use Rattle.mat_count.specs.LaminarMatroids.{CappedSets, IsLaminar}
+use Rattle.mat_count.proofs.Common.{◌≡◌, subst, AllBelow, is_counted, CappedSets, IsLaminar}
 use Rattle.mat_count.proofs.ClassTables.{is_counted-from_numbers}
 use Rattle.mat_count.proofs.laminar.LaminarMatroid.independent.Goals as goal
 

@@ -1,6 +1,4 @@
-use Rattle.std.proofs.Common.{sym, ap, ◌∙◌, subst}
-use Rattle.mat_sets.specs.Sets.{AllBelow}
-use Rattle.mat_count.specs.LaminarMatroids.{CappedSets}
+use Rattle.mat_count.proofs.Common.{sym, ap, ◌∙◌, subst, AllBelow, CappedSets}
 use Rattle.mat_count.proofs.ClassRows.{counted_below}
 use Rattle.mat_count.proofs.laminar.LaminarMatroid.keep.Goals as goal
 

@@ -1,6 +1,4 @@
-use Rattle.std.proofs.Common.{length, sym, ap, ◌∙◌}
-use Rattle.std.proofs.lemmas.Result.{IfOk-weaker}
-use Rattle.mat_count.specs.LaminarMatroids.{CappedSets}
+use Rattle.mat_count.proofs.Common.{length, sym, ap, ◌∙◌, IfOk-weaker, CappedSets}
 use Rattle.mat_count.proofs.FullSetRows.{places_kept, row_at_smallest}
 use Rattle.mat_count.proofs.laminar.LaminarMatroid.row.Goals as goal
 

@@ -1,5 +1,4 @@
-use Rattle.std.proofs.Common.{ℕ, List, length, get_or, sym, subst, arith}
-use Rattle.mat_count.specs.Partitions.{IsPartition}
+use Rattle.mat_count.proofs.Common.{ℕ, List, length, get_or, sym, subst, arith, IsPartition}
 use Rattle.mat_count.proofs.LabelClasses.{IsPartition-classes_by}
 use Rattle.mat_count.proofs.partition.Partition.by_labels.Goals as goal
 

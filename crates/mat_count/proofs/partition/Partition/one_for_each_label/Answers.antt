@@ -1,6 +1,4 @@
-use Rattle.std.proofs.Common.{◌≡◌, ◌∙◌, get_or, length, replicate, rules}
-use Rattle.std.proofs.lemmas.Result.{IfOk-weaker}
-use Rattle.mat_count.specs.Labels.{one_each}
+use Rattle.mat_count.proofs.Common.{◌≡◌, ◌∙◌, get_or, length, replicate, rules, IfOk-weaker, one_each}
 use Rattle.mat_count.proofs.LabelledMatroids.{caps_by-ones, caps_made}
 use Rattle.mat_count.proofs.partition.Partition.one_for_each_label.Goals as goal
 

@@ -1,5 +1,4 @@
-use Rattle.std.proofs.Common.{◌∙◌, ap, refl}
-use Rattle.mat_laws.specs.declared.exchange.Exchange.{Exchange}
+use Rattle.mat_count.proofs.Common.{◌∙◌, ap, refl, Exchange}
 use Rattle.mat_count.proofs.FullSetRows.{entry_kept, row_at_class}
 use Rattle.mat_count.proofs.partition.PartitionMatroid.adds.Goals as goal
 

@@ -1,7 +1,4 @@
-use Rattle.std.proofs.Common.{◌≡◌, subst}
-use Rattle.mat_sets.specs.Sets.{AllBelow}
-use Rattle.mat_count.specs.Counts.{is_counted}
-use Rattle.mat_count.specs.Partitions.{CappedClasses, IsPartition}
+use Rattle.mat_count.proofs.Common.{◌≡◌, subst, AllBelow, is_counted, CappedClasses, IsPartition}
 use Rattle.mat_count.proofs.ClassTables.{is_counted-from_numbers}
 use Rattle.mat_count.proofs.partition.PartitionMatroid.independent.Goals as goal
 

@@ -1,6 +1,4 @@
-use Rattle.std.proofs.Common.{length, sym, ap, ◌∙◌, subst}
-use Rattle.mat_sets.specs.Sets.{AllBelow}
-use Rattle.mat_count.specs.Partitions.{CappedClasses}
+use Rattle.mat_count.proofs.Common.{length, sym, ap, ◌∙◌, subst, AllBelow, CappedClasses}
 use Rattle.mat_count.proofs.ClassRows.{counted_below}
 use Rattle.mat_count.proofs.partition.PartitionMatroid.keep.Goals as goal
 

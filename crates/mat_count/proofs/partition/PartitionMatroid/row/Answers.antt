@@ -1,6 +1,4 @@
-use Rattle.std.proofs.Common.{length, sym, ap, ◌∙◌}
-use Rattle.std.proofs.lemmas.Result.{IfOk-weaker}
-use Rattle.mat_count.specs.Partitions.{CappedClasses}
+use Rattle.mat_count.proofs.Common.{length, sym, ap, ◌∙◌, IfOk-weaker, CappedClasses}
 use Rattle.mat_count.proofs.FullSetRows.{entry_kept, row_at_class}
 use Rattle.mat_count.proofs.partition.PartitionMatroid.row.Goals as goal
 

@@ -1,5 +1,4 @@
-use Rattle.std.proofs.Common.{ltb, ap, refl}
-use Rattle.mat_laws.specs.declared.exchange.Exchange.{Exchange}
+use Rattle.mat_count.proofs.Common.{ltb, ap, refl, Exchange}
 use Rattle.mat_count.proofs.UniformRows.{row_of_uniform}
 use Rattle.mat_count.proofs.uniform.UniformMatroid.adds.Goals as goal
 

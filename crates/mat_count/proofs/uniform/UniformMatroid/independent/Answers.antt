@@ -1,4 +1,4 @@
-use Rattle.mat_sets.proofs.SetTests.{is_set-true}
+use Rattle.mat_count.proofs.Common.{is_set-true}
 use Rattle.mat_count.proofs.uniform.UniformMatroid.independent.Goals as goal
 
 pub returns : goal.returns

@@ -1,4 +1,4 @@
-use Rattle.std.proofs.Common.{ltb, ap}
+use Rattle.mat_count.proofs.Common.{ltb, ap}
 use Rattle.mat_count.proofs.UniformRows.{row_of_uniform}
 use Rattle.mat_count.proofs.uniform.UniformMatroid.row.Goals as goal
 

@@ -1,6 +1,4 @@
-use Rattle.std.proofs.Common.{refl, ◌∙◌, ◌<◌, ◌≤◌, length, arith}
-use Rattle.mat_sets.proofs.Sums.{AllBelow-at}
-use Rattle.mat_laws.proofs.GreedyRunSteps.{IsRunning-start}
+use Rattle.mat_count.proofs.Common.{refl, ◌∙◌, ◌<◌, ◌≤◌, length, arith, AllBelow-at, IsRunning-start}
 use Rattle.mat_count.specs.UniformLaws.{uniform_laws}
 use Rattle.mat_count.proofs.UniformRuns.{uniform_run-entered, uniform_run-passed}
 use Rattle.mat_count.proofs.uniform.UniformMatroid.run.Goals as goal

@@ -1,5 +1,4 @@
-use Rattle.mat_laws.proofs.GreedyRunSteps.{IsRunning}
-use Rattle.mat_count.specs.Counts.{is_uniform}
+use Rattle.mat_count.proofs.Common.{IsRunning, is_uniform}
 use Rattle.mat_count.proofs.uniform.UniformMatroid.run.Given as goal
 
 abbrev pub invariant-loop-x : goal.invariant-loop-x

@@ -1,4 +1,4 @@
-use Rattle.mat_problem.specs.Views.{instance_of}
+use Rattle.mat_desc.proofs.Common.{instance_of}
 use Rattle.mat_desc.proofs.ProblemLaws.{gives_found, gives_only, gives_valid}
 use Rattle.mat_desc.proofs.read.description.read_problem.Goals as goal
 

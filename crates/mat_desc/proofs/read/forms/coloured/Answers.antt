@@ -1,5 +1,4 @@
-use Rattle.std.proofs.Common.{refl, sym}
-use Rattle.mat_desc.specs.Reading.{coloured_at}
+use Rattle.mat_desc.proofs.Common.{refl, sym, coloured_at}
 use Rattle.mat_desc.proofs.Columns.{edges-zip, colours-zip, weights-zip}
 use Rattle.mat_desc.proofs.read.forms.coloured.Goals as goal
 

@@ -1,14 +1,7 @@
 -- The edges, colours and weights so far, put side by side, are what is read of the lines so far; a fault of a line is the fault of all.
-use Rattle.std.proofs.Common.{◌≡◌, ◌++◌, ◌∷◌, [], length, arith}
+use Rattle.mat_desc.proofs.Common.{◌≡◌, ◌++◌, ◌∷◌, [], length, arith, err_from_is_err_and, length_push, repeat_at, lines_left, coloured_edge_at, naming, repeat_more, repeat_done, repeat_refused}
 use Rattle.std.specs.List.{zip}
-use Rattle.std.proofs.lemmas.Result.{err_from_is_err_and}
-use Rattle.std.proofs.lemmas.List.{length_push}
-use Rattle.mat_words.specs.Steps.{repeat_at}
-use Rattle.mat_words.specs.Cursors.{lines_left}
-use Rattle.mat_desc.specs.Reading.{coloured_edge_at}
-use Rattle.mat_desc.specs.Views.{naming}
 use Rattle.mat_desc.proofs.Columns.{zip-push_two}
-use Rattle.mat_words.proofs.Repeats.{repeat_more, repeat_done, repeat_refused}
 use Rattle.mat_desc.proofs.read.items.coloured_edge_lines.Goals as goal
 
 pub returns-in_err-edge-clause-value : goal.returns-in_err-edge-clause-value

@@ -1,10 +1,5 @@
-use Rattle.std.proofs.Common.{◌≡◌, ◌-◌, length}
+use Rattle.mat_desc.proofs.Common.{◌≡◌, ◌-◌, length, repeat_at, coloured_edge_at, naming, lines_left, with_front}
 use Rattle.std.specs.List.{zip}
-use Rattle.mat_words.specs.Steps.{repeat_at}
-use Rattle.mat_desc.specs.Reading.{coloured_edge_at}
-use Rattle.mat_desc.specs.Views.{naming}
-use Rattle.mat_words.specs.Cursors.{lines_left}
-use Rattle.mat_words.proofs.Repeats.{with_front}
 use Rattle.mat_desc.proofs.read.items.coloured_edge_lines.Given as goal
 
 abbrev pub invariant-loop : goal.invariant-loop

@@ -1,8 +1,4 @@
-use Rattle.std.proofs.Common.{◌≡◌, ◌-◌}
-use Rattle.mat_words.specs.Steps.{repeat_at}
-use Rattle.mat_desc.specs.Reading.{column_at}
-use Rattle.mat_words.specs.Cursors.{lines_left}
-use Rattle.mat_words.proofs.Repeats.{with_front}
+use Rattle.mat_desc.proofs.Common.{◌≡◌, ◌-◌, repeat_at, column_at, lines_left, with_front}
 use Rattle.mat_desc.proofs.read.items.column_lines.Given as goal
 
 abbrev pub invariant-loop : goal.invariant-loop

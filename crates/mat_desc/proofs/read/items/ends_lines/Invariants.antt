@@ -1,9 +1,4 @@
-use Rattle.std.proofs.Common.{◌≡◌, ◌-◌}
-use Rattle.mat_words.specs.Steps.{repeat_at}
-use Rattle.mat_desc.specs.Reading.{ends_line_at}
-use Rattle.mat_desc.specs.Views.{naming}
-use Rattle.mat_words.specs.Cursors.{lines_left}
-use Rattle.mat_words.proofs.Repeats.{with_front}
+use Rattle.mat_desc.proofs.Common.{◌≡◌, ◌-◌, repeat_at, ends_line_at, naming, lines_left, with_front}
 use Rattle.mat_desc.proofs.read.items.ends_lines.Given as goal
 
 abbrev pub invariant-loop : goal.invariant-loop

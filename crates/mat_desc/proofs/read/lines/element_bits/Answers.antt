@@ -1,10 +1,5 @@
 -- Each word adds its element to the set; a fault of a word, or an element that the set has already, is the fault of the line.
-use Rattle.std.proofs.Common.{◌≡◌, ◌∙◌, sym, []}
-use Rattle.std.proofs.lemmas.Result.{err_from_is_err_and}
-use Rattle.mat_words.specs.Cursors.{parts_left, words_left}
-use Rattle.mat_desc.specs.Reading.{elements_at}
-use Rattle.mat_desc.specs.Views.{naming}
-use Rattle.mat_words.proofs.WordReading.{some_left, none_left}
+use Rattle.mat_desc.proofs.Common.{◌≡◌, ◌∙◌, sym, [], err_from_is_err_and, parts_left, words_left, elements_at, naming, some_left, none_left}
 use Rattle.mat_desc.proofs.ElementLists.{elements_go_on, elements_repeat, elements_fail, elements_done}
 use Rattle.mat_desc.proofs.read.lines.element_bits.Goals as goal
 

@@ -1,11 +1,5 @@
 -- Each word adds its element to the set; a fault of a word, or an element that is taken already, is the fault of the line.
-use Rattle.std.proofs.Common.{◌≡◌, ◌∙◌, sym, []}
-use Rattle.std.proofs.lemmas.Result.{err_from_is_err_and}
-use Rattle.std.proofs.lemmas.Bool.{not-true, not-false}
-use Rattle.mat_words.specs.Cursors.{parts_left, words_left}
-use Rattle.mat_desc.specs.Reading.{elements_at}
-use Rattle.mat_desc.specs.Views.{naming}
-use Rattle.mat_words.proofs.WordReading.{some_left, none_left}
+use Rattle.mat_desc.proofs.Common.{◌≡◌, ◌∙◌, sym, [], err_from_is_err_and, not-true, not-false, parts_left, words_left, elements_at, naming, some_left, none_left}
 use Rattle.mat_desc.proofs.ElementLists.{elements_go_on, elements_repeat, elements_fail, elements_done}
 use Rattle.mat_desc.proofs.read.lines.elements_line.Goals as goal
 

@@ -1,7 +1,4 @@
-use Rattle.std.proofs.Common.{◌≡◌, length}
-use Rattle.mat_desc.specs.Reading.{elements_from, elements_at}
-use Rattle.mat_desc.specs.Views.{naming}
-use Rattle.mat_words.specs.Cursors.{parts_left, words_left}
+use Rattle.mat_desc.proofs.Common.{◌≡◌, length, elements_from, elements_at, naming, parts_left, words_left}
 use Rattle.mat_desc.proofs.read.lines.elements_line.Given as goal
 
 abbrev pub invariant-loop-rest : goal.invariant-loop-rest

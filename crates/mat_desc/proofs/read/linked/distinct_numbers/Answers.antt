@@ -1,8 +1,4 @@
-use Rattle.std.proofs.Common.{◌∙◌, [], sym}
-use Rattle.std.proofs.lemmas.Result.{err_from_is_err_and}
-use Rattle.std.proofs.lemmas.Bool.{not-true, not-false}
-use Rattle.mat_desc.specs.Reading.{distinct_at}
-use Rattle.mat_words.specs.Cursors.{words_left}
+use Rattle.mat_desc.proofs.Common.{◌∙◌, [], sym, err_from_is_err_and, not-true, not-false, distinct_at, words_left}
 use Rattle.mat_desc.proofs.DistinctNumbers.{distinct_more, distinct_repeat, distinct_fails, distinct_done}
 use Rattle.mat_desc.proofs.read.linked.distinct_numbers.Goals as goal
 

@@ -1,7 +1,4 @@
-use Rattle.std.proofs.Common.{◌≡◌, ◌-◌, []}
-use Rattle.mat_desc.specs.Reading.{distinct_at}
-use Rattle.mat_words.specs.Cursors.{words_left}
-use Rattle.mat_words.proofs.Repeats.{with_front}
+use Rattle.mat_desc.proofs.Common.{◌≡◌, ◌-◌, [], distinct_at, words_left, with_front}
 use Rattle.mat_desc.proofs.read.linked.distinct_numbers.Given as goal
 
 abbrev pub invariant-loop : goal.invariant-loop

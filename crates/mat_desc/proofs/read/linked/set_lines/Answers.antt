@@ -1,9 +1,4 @@
-use Rattle.std.proofs.lemmas.Result.{err_from_is_err_and}
-use Rattle.mat_words.specs.Steps.{repeat_at}
-use Rattle.mat_desc.specs.Reading.{set_line_at}
-use Rattle.mat_desc.specs.Views.{naming}
-use Rattle.mat_words.specs.Cursors.{lines_left}
-use Rattle.mat_words.proofs.Repeats.{repeat_more, repeat_done, repeat_refused}
+use Rattle.mat_desc.proofs.Common.{err_from_is_err_and, repeat_at, set_line_at, naming, lines_left, repeat_more, repeat_done, repeat_refused}
 use Rattle.mat_desc.proofs.read.linked.set_lines.Goals as goal
 
 pub returns-in_err-set : goal.returns-in_err-set

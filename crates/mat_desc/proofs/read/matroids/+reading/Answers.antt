@@ -1,14 +1,6 @@
 -- For each keyword what follows it is read as the definition reads it; the matroids of a list are read one after the other, as often as they are
 -- counted, up to the first fault.
-use Rattle.std.proofs.Common.{◌≡◌, ◌<◌, Some, map, rules, arith}
-use Rattle.std.proofs.lemmas.Result.{err_from_is_err_and}
-use Rattle.std.proofs.lemmas.List.{map-append}
-use Rattle.mat_any.specs.Views.{tree_of}
-use Rattle.mat_words.specs.Steps.{repeat_at}
-use Rattle.mat_words.specs.Cursors.{lines_left, words_left}
-use Rattle.mat_words.proofs.Repeats.{repeat_more, repeat_done, repeat_refused}
-use Rattle.mat_desc.specs.Reading.{keyword_of, matroid_within}
-use Rattle.mat_desc.specs.Views.{naming}
+use Rattle.mat_desc.proofs.Common.{◌≡◌, ◌<◌, Some, map, rules, arith, err_from_is_err_and, map-append, tree_of, repeat_at, lines_left, words_left, repeat_more, repeat_done, repeat_refused, keyword_of, matroid_within, naming}
 use Rattle.mat_desc.specs.declared.read.keywords.Keyword.TheVariants as keywords
 use Rattle.mat_desc.proofs.Rooms.{within_is}
 use Rattle.mat_desc.proofs.read.matroids.+reading.Goals as goal

@@ -1,10 +1,4 @@
-use Rattle.std.proofs.Common.{◌≡◌, ◌+◌, ◌-◌, ◌*◌, map}
-use Rattle.mat_any.specs.Views.{tree_of}
-use Rattle.mat_words.specs.Steps.{repeat_at}
-use Rattle.mat_words.specs.Cursors.{lines_left}
-use Rattle.mat_words.proofs.Repeats.{with_front}
-use Rattle.mat_desc.specs.Reading.{matroid_within}
-use Rattle.mat_desc.specs.Views.{naming}
+use Rattle.mat_desc.proofs.Common.{◌≡◌, ◌+◌, ◌-◌, ◌*◌, map, tree_of, repeat_at, lines_left, with_front, matroid_within, naming}
 use Rattle.mat_desc.proofs.read.matroids.+reading.Given as goal
 
 abbrev pub decreases-next_matroid_within : goal.decreases-next_matroid_within

@@ -1,8 +1,4 @@
-use Rattle.std.proofs.Common.{[]}
-use Rattle.std.proofs.lemmas.Result.{err_from_is_err_and}
-use Rattle.mat_desc.specs.Reading.{classes_at}
-use Rattle.mat_desc.specs.Views.{naming}
-use Rattle.mat_words.specs.Cursors.{lines_left}
+use Rattle.mat_desc.proofs.Common.{[], err_from_is_err_and, classes_at, naming, lines_left}
 use Rattle.mat_desc.proofs.Classes.{classes_more, classes_fail, classes_done}
 use Rattle.mat_desc.proofs.read.matroids.class_lines.Goals as goal
 

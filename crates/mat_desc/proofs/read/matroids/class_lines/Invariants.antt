@@ -1,7 +1,4 @@
-use Rattle.std.proofs.Common.{◌≡◌, ◌-◌, []}
-use Rattle.mat_desc.specs.Reading.{classes_at}
-use Rattle.mat_desc.specs.Views.{naming}
-use Rattle.mat_words.specs.Cursors.{lines_left}
+use Rattle.mat_desc.proofs.Common.{◌≡◌, ◌-◌, [], classes_at, naming, lines_left}
 use Rattle.mat_desc.proofs.Classes.{with_front}
 use Rattle.mat_desc.proofs.read.matroids.class_lines.Given as goal
 

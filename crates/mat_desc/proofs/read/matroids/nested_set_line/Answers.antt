@@ -1,5 +1,4 @@
-use Rattle.mat_words.specs.Cursors.{words_left}
-use Rattle.mat_desc.specs.Views.{naming}
+use Rattle.mat_desc.proofs.Common.{words_left, naming}
 use Rattle.mat_desc.proofs.ElementLaws.{IsSet-elements}
 use Rattle.mat_desc.proofs.read.matroids.nested_set_line.Goals as goal
 

@@ -1,9 +1,4 @@
-use Rattle.std.proofs.Common.{[], ◌∷◌, ◌++◌, ap, ◌∙◌, arith}
-use Rattle.std.proofs.lemmas.Result.{err_from_is_err_and}
-use Rattle.std.proofs.lemmas.List.{length_push}
-use Rattle.mat_desc.specs.Reading.{nested_sets_at}
-use Rattle.mat_desc.specs.Views.{naming}
-use Rattle.mat_words.specs.Cursors.{lines_left}
+use Rattle.mat_desc.proofs.Common.{[], ◌∷◌, ◌++◌, ap, ◌∙◌, arith, err_from_is_err_and, length_push, nested_sets_at, naming, lines_left}
 use Rattle.mat_desc.proofs.NestedSets.{nested_sets_more, nested_sets_fail, nested_sets_done}
 use Rattle.mat_desc.proofs.read.matroids.nested_set_lines.Goals as goal
 

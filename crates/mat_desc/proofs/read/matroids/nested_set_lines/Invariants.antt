@@ -1,7 +1,4 @@
-use Rattle.std.proofs.Common.{◌≡◌, ◌-◌, [], length}
-use Rattle.mat_desc.specs.Reading.{nested_sets_at}
-use Rattle.mat_desc.specs.Views.{naming}
-use Rattle.mat_words.specs.Cursors.{lines_left}
+use Rattle.mat_desc.proofs.Common.{◌≡◌, ◌-◌, [], length, nested_sets_at, naming, lines_left}
 use Rattle.mat_desc.proofs.Classes.{with_front}
 use Rattle.mat_desc.proofs.read.matroids.nested_set_lines.Given as goal
 

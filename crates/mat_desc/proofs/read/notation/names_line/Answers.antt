@@ -1,5 +1,4 @@
-use Rattle.mat_words.specs.Cursors.{lines_left, words_left}
-use Rattle.mat_words.proofs.LineReading.{keyed_words}
+use Rattle.mat_desc.proofs.Common.{lines_left, words_left, keyed_words}
 use Rattle.mat_desc.proofs.read.notation.names_line.Goals as goal
 
 pub next_names-requires : goal.next_names-requires

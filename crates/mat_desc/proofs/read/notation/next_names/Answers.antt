@@ -1,16 +1,6 @@
 -- What is left to read is the same function at the next word: it fails where there is no word, where the word is too long, and where it is a name
 -- already, and else goes on with one name more.
-use Rattle.std.proofs.Common.{◌≡◌, ◌+◌, true, false, [], ◌∷◌, ◌++◌, length, refl, sym, ap, ◌∙◌}
-use Rattle.std.specs.Prelude.{nat_lt}
-use Rattle.std.proofs.lemmas.Bool.{lt-ltb, le-ltb, not-true, not-false}
-use Rattle.std.proofs.lemmas.List.{length_push}
-use Rattle.std.proofs.lemmas.Result.{err_from_is_err_and}
-use Rattle.mat_words.specs.Cursors.{words_left}
-use Rattle.mat_words.specs.NameLists.{names_of}
-use Rattle.mat_words.specs.Names.{longest_name, is_among}
-use Rattle.mat_words.proofs.NameLemmas.{is_name-short}
-use Rattle.mat_words.proofs.WordReading.{word_found}
-use Rattle.mat_desc.specs.Reading.{names_from}
+use Rattle.mat_desc.proofs.Common.{◌≡◌, ◌+◌, true, false, [], ◌∷◌, ◌++◌, length, refl, sym, ap, ◌∙◌, nat_lt, lt-ltb, le-ltb, not-true, not-false, length_push, err_from_is_err_and, words_left, names_of, longest_name, is_among, is_name-short, word_found, names_from}
 use Rattle.mat_desc.proofs.NotationLaws.{words_cut, names_next, names_fail, names_done}
 use Rattle.mat_desc.proofs.read.notation.next_names.Goals as goal
 

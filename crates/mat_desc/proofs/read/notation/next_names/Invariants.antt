@@ -1,9 +1,5 @@
-use Rattle.std.proofs.Common.{◌≡◌, ◌-◌, true, [], length}
+use Rattle.mat_desc.proofs.Common.{◌≡◌, ◌-◌, true, [], length, words_left, names_of, is_word, names_from}
 use Rattle.std.specs.List.{list_all}
-use Rattle.mat_words.specs.Cursors.{words_left}
-use Rattle.mat_words.specs.NameLists.{names_of}
-use Rattle.mat_words.specs.Words.{is_word}
-use Rattle.mat_desc.specs.Reading.{names_from}
 use Rattle.mat_desc.proofs.read.notation.next_names.Given as goal
 
 abbrev pub invariant-loop : goal.invariant-loop

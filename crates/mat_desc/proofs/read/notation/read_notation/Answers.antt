@@ -1,7 +1,4 @@
-use Rattle.std.proofs.Common.{◌<◌, ◌^◌, arith}
-use Rattle.std.specs.Prelude.{codes}
-use Rattle.mat_words.specs.Cursors.{lines_left}
-use Rattle.mat_words.specs.NameLists.{names_of}
+use Rattle.mat_desc.proofs.Common.{◌<◌, ◌^◌, arith, codes, lines_left, names_of}
 use Rattle.mat_desc.proofs.NotationLaws.{names_line_found, vertex_names_found}
 use Rattle.mat_desc.proofs.read.notation.read_notation.Goals as goal
 

@@ -1,6 +1,4 @@
-use Rattle.std.proofs.Common.{rules}
-use Rattle.mat_desc.specs.Notations.{words_for}
-use Rattle.mat_desc.specs.Views.{naming}
+use Rattle.mat_desc.proofs.Common.{rules, words_for, naming}
 use Rattle.mat_desc.proofs.Writing.{capped_written}
 use Rattle.mat_desc.proofs.write.lines.put_capped_line.Goals as goal
 

@@ -1,6 +1,4 @@
-use Rattle.std.proofs.Common.{rules}
-use Rattle.mat_desc.specs.Canonical.{capped_line}
-use Rattle.mat_desc.specs.Views.{naming}
+use Rattle.mat_desc.proofs.Common.{rules, capped_line, naming}
 use Rattle.mat_desc.proofs.Writing.{pair_written, pairs_written}
 use Rattle.mat_desc.proofs.write.lines.put_capped_lines.Goals as goal
 

@@ -1,7 +1,4 @@
-use Rattle.std.proofs.Common.{rules}
-use Rattle.mat_sets.specs.Weights.{zero_weight}
-use Rattle.mat_desc.specs.Grammar.{coloured_edge_line}
-use Rattle.mat_desc.specs.Views.{naming}
+use Rattle.mat_desc.proofs.Common.{rules, zero_weight, coloured_edge_line, naming}
 use Rattle.mat_desc.proofs.Writing.{triple_written, triples_written}
 use Rattle.mat_desc.proofs.write.lines.put_coloured_edge_lines.Goals as goal
 

@@ -1,6 +1,4 @@
-use Rattle.std.proofs.Common.{arith}
-use Rattle.mat_desc.specs.Grammar.{ends_line}
-use Rattle.mat_desc.specs.Views.{naming}
+use Rattle.mat_desc.proofs.Common.{arith, ends_line, naming}
 use Rattle.mat_desc.proofs.Writing.{lines_written}
 use Rattle.mat_desc.proofs.write.lines.put_ends_lines.Goals as goal
 

@@ -1,7 +1,4 @@
-use Rattle.std.proofs.Common.{arith}
-use Rattle.std.specs.Prelude.{codes}
-use Rattle.mat_desc.specs.Grammar.{listing_line}
-use Rattle.mat_desc.specs.Views.{naming}
+use Rattle.mat_desc.proofs.Common.{arith, codes, listing_line, naming}
 use Rattle.mat_desc.proofs.Writing.{lines_written}
 use Rattle.mat_desc.proofs.write.lines.put_family_lines.Goals as goal
 

@@ -1,9 +1,5 @@
-use Rattle.std.proofs.Common.{◌≡◌, ◌++◌, ◌∷◌, [], take}
-use Rattle.std.specs.Prelude.{codes}
+use Rattle.mat_desc.proofs.Common.{◌≡◌, ◌++◌, ◌∷◌, [], take, codes, listing_line, text_of, naming}
 use Rattle.std.specs.List.{flat_map}
-use Rattle.mat_desc.specs.Grammar.{listing_line}
-use Rattle.mat_words.specs.Lines.{text_of}
-use Rattle.mat_desc.specs.Views.{naming}
 use Rattle.mat_desc.proofs.write.lines.put_family_lines.Given as goal
 
 -- the lines of the sets so far stand there

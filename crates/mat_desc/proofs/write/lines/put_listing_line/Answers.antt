@@ -1,7 +1,4 @@
-use Rattle.std.proofs.Common.{rules}
-use Rattle.mat_words.proofs.WrittenLines.{words_written}
-use Rattle.mat_desc.specs.Notations.{words_for}
-use Rattle.mat_desc.specs.Views.{naming}
+use Rattle.mat_desc.proofs.Common.{rules, words_written, words_for, naming}
 use Rattle.mat_desc.proofs.write.lines.put_listing_line.Goals as goal
 
 pub returns : goal.returns

@@ -1,9 +1,4 @@
-use Rattle.std.proofs.Common.{◌<◌, ◌∷◌, get_or, arith, rules}
-use Rattle.mat_sets.specs.Sets.{AllBelow}
-use Rattle.mat_sets.proofs.Sums.{AllBelow-at}
-use Rattle.mat_words.proofs.WrittenLines.{item_written, words_done}
-use Rattle.mat_desc.specs.Notations.{word_for}
-use Rattle.mat_desc.specs.Views.{naming}
+use Rattle.mat_desc.proofs.Common.{◌<◌, ◌∷◌, get_or, arith, rules, AllBelow, AllBelow-at, item_written, words_done, word_for, naming}
 use Rattle.mat_desc.proofs.NamedParts.{where_named}
 use Rattle.mat_desc.proofs.write.lines.put_member_words.Goals as goal
 

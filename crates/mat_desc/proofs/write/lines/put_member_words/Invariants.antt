@@ -1,7 +1,5 @@
-use Rattle.std.proofs.Common.{◌≡◌, ◌++◌, ◌∷◌, take}
+use Rattle.mat_desc.proofs.Common.{◌≡◌, ◌++◌, ◌∷◌, take, word_for, naming}
 use Rattle.std.specs.List.{flat_map}
-use Rattle.mat_desc.specs.Notations.{word_for}
-use Rattle.mat_desc.specs.Views.{naming}
 use Rattle.mat_desc.proofs.write.lines.put_member_words.Given as goal
 
 -- the words for the members so far stand there

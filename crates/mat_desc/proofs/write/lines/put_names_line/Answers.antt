@@ -1,6 +1,4 @@
-use Rattle.std.proofs.Common.{◌++◌, ◌∷◌, [], rules}
-use Rattle.mat_words.specs.NameLists.{names_of}
-use Rattle.mat_words.proofs.WrittenLines.{item_written, words_written}
+use Rattle.mat_desc.proofs.Common.{◌++◌, ◌∷◌, [], rules, names_of, item_written, words_written}
 use Rattle.mat_desc.proofs.Writing.{all_written}
 use Rattle.mat_desc.proofs.write.lines.put_names_line.Goals as goal
 

@@ -1,6 +1,4 @@
-use Rattle.std.proofs.Common.{◌≡◌, ◌++◌, take}
-use Rattle.mat_words.specs.NameLists.{names_of}
-use Rattle.mat_words.specs.Writing.{spaced}
+use Rattle.mat_desc.proofs.Common.{◌≡◌, ◌++◌, take, names_of, spaced}
 use Rattle.mat_desc.proofs.write.lines.put_names_line.Given as goal
 
 -- the keyword stands there, and behind it the names so far

@@ -1,7 +1,4 @@
-use Rattle.std.proofs.Common.{rules}
-use Rattle.mat_sets.specs.Weights.{zero_weight}
-use Rattle.mat_desc.specs.Grammar.{weighted_line}
-use Rattle.mat_desc.specs.Views.{naming}
+use Rattle.mat_desc.proofs.Common.{rules, zero_weight, weighted_line, naming}
 use Rattle.mat_desc.proofs.Writing.{pair_written, pairs_written}
 use Rattle.mat_desc.proofs.write.lines.put_weighted_lines.Goals as goal
 

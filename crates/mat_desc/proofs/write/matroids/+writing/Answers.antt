@@ -1,21 +1,11 @@
 -- A union is written as its line with the number of its matroids, and then their lines one after the other; names are there for the matroids
 -- within where they are there for the whole.
-use Rattle.std.proofs.Common.{◌≡◌, ℕ, ◌<◌, ◌^◌, List, [], ◌∷◌, ◌++◌, length, map, get_or, pos, ap, subst, sym, ◌∙◌, rules, arith}
+use Rattle.mat_desc.proofs.Common.{◌≡◌, ℕ, ◌<◌, ◌^◌, List, [], ◌∷◌, ◌++◌, length, map, get_or, pos, ap, subst, sym, ◌∙◌, rules, arith, All, codes, ints, length-map, Line, text_of, numeral, tree_of, the_lemmas, matroid_lines, IsValidTree, naming}
 use Rattle.std.specs.List.{flat_map}
-use Rattle.std.specs.Prelude.{All, codes}
-use Rattle.std.proofs.lemmas.Int.{ints}
-use Rattle.std.proofs.lemmas.List.{length-map}
 use Rattle.std.proofs.lemmas.List.Folds.{flat_map-map}
 use mir.Val.{to_z}
 use mir.Syntax.{w128}
-use Rattle.mat_words.specs.Lines.{Line, text_of}
-use Rattle.mat_words.specs.Numbers.{numeral}
-use Rattle.mat_any.specs.Views.{tree_of}
-use Rattle.mat_any.specs.declared.any.AnyMatroid.{the_lemmas}
 use Rattle.mat_any.proofs.JoinedMatroids.{node}
-use Rattle.mat_desc.specs.Canonical.{matroid_lines}
-use Rattle.mat_problem.specs.Validity.{IsValidTree}
-use Rattle.mat_desc.specs.Views.{naming}
 use Rattle.mat_desc.proofs.NamedParts.{where_named, part_valid, parts_valid}
 use Rattle.mat_desc.proofs.UnionLines.{union_lines}
 use Rattle.mat_desc.proofs.Writing.{both_written, items_written}

@@ -1,9 +1,5 @@
-use Rattle.std.proofs.Common.{◌≡◌, ◌++◌, take}
+use Rattle.mat_desc.proofs.Common.{◌≡◌, ◌++◌, take, text_of, tree_of, matroid_lines, naming}
 use Rattle.std.specs.List.{flat_map}
-use Rattle.mat_words.specs.Lines.{text_of}
-use Rattle.mat_any.specs.Views.{tree_of}
-use Rattle.mat_desc.specs.Canonical.{matroid_lines}
-use Rattle.mat_desc.specs.Views.{naming}
 use Rattle.mat_desc.proofs.write.matroids.+writing.Given as goal
 
 -- the lines of the matroids so far stand there

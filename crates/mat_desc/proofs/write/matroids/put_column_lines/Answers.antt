@@ -1,5 +1,4 @@
-use Rattle.std.proofs.Common.{arith}
-use Rattle.mat_desc.specs.Grammar.{column_line}
+use Rattle.mat_desc.proofs.Common.{arith, column_line}
 use Rattle.mat_desc.proofs.Writing.{lines_written}
 use Rattle.mat_desc.proofs.write.matroids.put_column_lines.Goals as goal
 

@@ -1,7 +1,5 @@
-use Rattle.std.proofs.Common.{◌≡◌, ◌++◌, ◌∷◌, [], take}
+use Rattle.mat_desc.proofs.Common.{◌≡◌, ◌++◌, ◌∷◌, [], take, text_of, column_line}
 use Rattle.std.specs.List.{flat_map}
-use Rattle.mat_words.specs.Lines.{text_of}
-use Rattle.mat_desc.specs.Grammar.{column_line}
 use Rattle.mat_desc.proofs.write.matroids.put_column_lines.Given as goal
 
 -- the lines of the columns so far stand there

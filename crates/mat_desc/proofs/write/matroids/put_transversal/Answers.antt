@@ -1,12 +1,6 @@
-use Rattle.std.proofs.Common.{◌≡◌, ℕ, List, [], ◌∷◌, ◌++◌, ◌<◌, ◌^◌, length, map, pos, ap, subst, ◌∙◌, rules, arith}
-use Rattle.std.proofs.lemmas.Int.{ints}
-use Rattle.std.specs.Prelude.{codes}
+use Rattle.mat_desc.proofs.Common.{◌≡◌, ℕ, List, [], ◌∷◌, ◌++◌, ◌<◌, ◌^◌, length, map, pos, ap, subst, ◌∙◌, rules, arith, ints, codes, numeral, listing_line, text_of, naming}
 use mir.Val.{to_z}
 use mir.Syntax.{w128}
-use Rattle.mat_words.specs.Numbers.{numeral}
-use Rattle.mat_desc.specs.Grammar.{listing_line}
-use Rattle.mat_words.specs.Lines.{text_of}
-use Rattle.mat_desc.specs.Views.{naming}
 use Rattle.mat_desc.proofs.Writing.{both_written}
 use Rattle.mat_desc.proofs.write.matroids.put_transversal.Goals as goal
 

@@ -1,8 +1,4 @@
-use Rattle.std.proofs.Common.{codes}
-use Rattle.mat_any.specs.Views.{tree_of}
-use Rattle.mat_words.specs.Writing.{weights_line}
-use Rattle.mat_desc.specs.Canonical.{matroid_lines}
-use Rattle.mat_desc.specs.Views.{naming}
+use Rattle.mat_desc.proofs.Common.{codes, tree_of, weights_line, matroid_lines, naming}
 use Rattle.mat_desc.proofs.Writing.{pair_written_out}
 use Rattle.mat_desc.proofs.write.problem.put_pair.Goals as goal
 

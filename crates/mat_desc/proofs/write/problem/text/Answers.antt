@@ -1,6 +1,4 @@
-use Rattle.std.proofs.Common.{rules}
-use Rattle.mat_problem.specs.Views.{instance_of}
-use Rattle.mat_desc.specs.Views.{written_notation}
+use Rattle.mat_desc.proofs.Common.{rules, instance_of, written_notation}
 use Rattle.mat_desc.proofs.Writing.{problem_written}
 use Rattle.mat_desc.proofs.write.problem.text.Goals as goal
 

@@ -1,4 +1,4 @@
-use Rattle.std.proofs.lemmas.Result.{on_ok_weaker}
+use Rattle.mat_drawing.proofs.Common.{on_ok_weaker}
 use Rattle.mat_drawing.proofs.Pieces.{more_added}
 use Rattle.mat_drawing.proofs.attributes.Attributes.put.Goals as goal
 

@@ -1,4 +1,4 @@
-use Rattle.std.proofs.lemmas.Result.{on_ok_weaker}
+use Rattle.mat_drawing.proofs.Common.{on_ok_weaker}
 use Rattle.mat_drawing.proofs.Pieces.{line_added, line_feed_markup}
 use Rattle.mat_drawing.proofs.drawing.Drawing.add_line.Goals as goal
 

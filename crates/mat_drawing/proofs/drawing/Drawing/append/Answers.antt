@@ -1,5 +1,4 @@
-use Rattle.std.proofs.Common.{ap, ◌++◌, ◌∙◌}
-use Rattle.std.proofs.lemmas.Result.{on_ok_weaker}
+use Rattle.mat_drawing.proofs.Common.{ap, ◌++◌, ◌∙◌, on_ok_weaker}
 use Rattle.mat_drawing.proofs.drawing.Drawing.append.Goals as goal
 
 pub returns-clause-added : goal.returns-clause-added

@@ -1,8 +1,6 @@
-use Rattle.std.proofs.Common.{ap, length, pos, ◌+ℤ◌, ◌*ℤ◌, refl, rules, ◌∙◌}
-use Rattle.std.proofs.lemmas.Int.{to_z-of_z}
+use Rattle.mat_drawing.proofs.Common.{ap, length, pos, ◌+ℤ◌, ◌*ℤ◌, refl, rules, ◌∙◌, to_z-of_z, length_push}
 use Rattle.std.proofs.lemmas.Iterator.Consumers.{YieldsList-end}
 use Rattle.std.proofs.lemmas.Iterator.Splits.{YieldsList-from_lines}
-use Rattle.std.proofs.lemmas.List.{length_push}
 use Rattle.std.specs.Int.{w64, cast_signed, cast_unsigned, saturate_signed}
 use Rattle.std.specs.Str.Lines.{lines}
 use Rattle.mat_drawing.proofs.Lowered.{lowered_more, lowered_none}

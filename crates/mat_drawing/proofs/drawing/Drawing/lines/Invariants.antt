@@ -1,7 +1,6 @@
 -- So far markup is added, and the next line is lower by so much for each line.
-use Rattle.std.proofs.Common.{◌≡◌, length, pos, ◌+ℤ◌, ◌*ℤ◌}
+use Rattle.mat_drawing.proofs.Common.{◌≡◌, length, pos, ◌+ℤ◌, ◌*ℤ◌, AddsMarkup}
 use Rattle.std.specs.Int.{w64, saturate_signed}
-use Rattle.mat_drawing.specs.Markup.{AddsMarkup}
 use Rattle.mat_drawing.proofs.drawing.Drawing.lines.Given as goal
 
 abbrev pub invariant-loop-line : goal.invariant-loop-line

@@ -1,8 +1,5 @@
-use Rattle.std.proofs.Common.{◌≡◌, true}
+use Rattle.mat_drawing.proofs.Common.{◌≡◌, true, IfOk-weaker, IsMarkup, is_text_byte}
 use Rattle.std.specs.List.{list_all}
-use Rattle.std.proofs.lemmas.Result.{IfOk-weaker}
-use Rattle.mat_drawing.specs.Markup.{IsMarkup}
-use Rattle.mat_text.specs.Texts.{is_text_byte}
 use Rattle.mat_drawing.proofs.Printable.{markup_printable}
 use Rattle.mat_drawing.proofs.drawing.Drawing.picture.Goals as goal
 

@@ -1,7 +1,4 @@
-use Rattle.std.proofs.Common.{◌∙◌, sym, ap}
-use Rattle.std.proofs.lemmas.Bool.{both_ways}
-use Rattle.std.proofs.lemmas.Result.{IfOk-weaker}
-use Rattle.mat_sets.specs.Sets.{is_member}
+use Rattle.mat_exchange.proofs.Common.{◌∙◌, sym, ap, both_ways, IfOk-weaker, is_member}
 use Rattle.mat_exchange.proofs.ComputedRows.{element_below, row_computed, row_of-member}
 use Rattle.mat_exchange.proofs.exchanges.MissingRowsRowJob.row.Goals as goal
 

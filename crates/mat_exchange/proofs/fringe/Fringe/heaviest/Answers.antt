@@ -1,6 +1,4 @@
-use Rattle.std.proofs.Common.{length, sym}
-use Rattle.mat_sets.specs.Sets.{is_member}
-use Rattle.mat_sets.specs.Weights.{weight_at}
+use Rattle.mat_exchange.proofs.Common.{length, sym, is_member, weight_at}
 use Rattle.mat_exchange.proofs.HeaviestMembers.{heaviest_below}
 use Rattle.mat_exchange.proofs.fringe.Fringe.heaviest.Goals as goal
 

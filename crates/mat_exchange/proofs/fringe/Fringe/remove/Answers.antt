@@ -1,5 +1,4 @@
-use Rattle.std.proofs.Common.{◌<◌, length, ap, refl, sym, subst, ◌∙◌}
-use Rattle.mat_sets.specs.Sets.{is_member}
+use Rattle.mat_exchange.proofs.Common.{◌<◌, length, ap, refl, sym, subst, ◌∙◌, is_member}
 use Rattle.mat_exchange.proofs.FringeTops.{left_below, tops_left}
 use Rattle.mat_exchange.proofs.fringe.Fringe.remove.Goals as goal
 

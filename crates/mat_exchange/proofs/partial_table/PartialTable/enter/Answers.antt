@@ -1,6 +1,4 @@
-use Rattle.std.proofs.Common.{ℕ, ◌≤◌, List, ◌∙◌, set, length, ap, arith}
-use Rattle.mat_sets.specs.Sets.{AllBelow}
-use Rattle.mat_sets.proofs.Ground.{AllBelow-from_members, AllBelow-member}
+use Rattle.mat_exchange.proofs.Common.{ℕ, ◌≤◌, List, ◌∙◌, set, length, ap, arith, AllBelow, AllBelow-from_members, AllBelow-member}
 use Rattle.mat_exchange.proofs.TableSteps.{IsFilledTable-enter}
 use Rattle.mat_exchange.proofs.partial_table.PartialTable.enter.Goals as goal
 

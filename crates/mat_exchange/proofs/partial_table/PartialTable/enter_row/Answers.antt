@@ -1,6 +1,4 @@
-use Rattle.std.proofs.Common.{◌∙◌, Bool, List, ℕ, ap}
-use Rattle.mat_laws.specs.declared.exchange.Exchange.{Exchange}
-use Rattle.std.proofs.lemmas.Result.{on_ok_weaker}
+use Rattle.mat_exchange.proofs.Common.{◌∙◌, Bool, List, ℕ, ap, Exchange, on_ok_weaker}
 use Rattle.mat_exchange.proofs.partial_table.PartialTable.enter_row.Goals as goal
 
 pub returns-then-row : goal.returns-then-row

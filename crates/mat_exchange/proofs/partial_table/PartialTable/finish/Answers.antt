@@ -1,4 +1,4 @@
-use Rattle.std.proofs.Common.{◌∙◌}
+use Rattle.mat_exchange.proofs.Common.{◌∙◌}
 use Rattle.mat_exchange.proofs.TableSteps.{AreTransposed-filled, table_of-filled}
 use Rattle.mat_exchange.proofs.partial_table.PartialTable.finish.Goals as goal
 

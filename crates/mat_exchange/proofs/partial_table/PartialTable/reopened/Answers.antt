@@ -1,9 +1,4 @@
-use Rattle.std.proofs.Common.{◌≡◌, ℕ, ◌≤◌, ◌&&◌, not, Bool, false, [], List, refl, subst, sym, arith}
-use Rattle.std.proofs.lemmas.Bool.{cond-false}
-use Rattle.mat_sets.specs.Limits.{most_elements}
-use Rattle.mat_sets.specs.Rows.{row_at, AreRemoved}
-use Rattle.mat_sets.specs.Sets.{is_member}
-use Rattle.mat_exchange.specs.RowTables.{IsFilledTable, entered_to}
+use Rattle.mat_exchange.proofs.Common.{◌≡◌, ℕ, ◌≤◌, ◌&&◌, not, Bool, false, [], List, refl, subst, sym, arith, cond-false, most_elements, row_at, AreRemoved, is_member, IsFilledTable, entered_to}
 use Rattle.mat_exchange.proofs.TableSteps.{IsFilledTable-reopened}
 use Rattle.mat_exchange.proofs.partial_table.PartialTable.reopened.Goals as goal
 use Rattle.mat_exchange.proofs.partial_table.PartialTable.reopened.Goals.{then-has_member, else-has_member}

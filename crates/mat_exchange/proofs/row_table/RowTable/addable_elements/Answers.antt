@@ -1,4 +1,4 @@
-use Rattle.std.proofs.Common.{◌∙◌, sym}
+use Rattle.mat_exchange.proofs.Common.{◌∙◌, sym}
 use Rattle.mat_exchange.proofs.RowTables.{addable_tells, base_tells}
 use Rattle.mat_exchange.proofs.row_table.RowTable.addable_elements.Goals as goal
 

@@ -1,4 +1,4 @@
-use Rattle.std.proofs.Common.{◌∙◌}
+use Rattle.mat_exchange.proofs.Common.{◌∙◌}
 use Rattle.mat_exchange.proofs.RowTables.{addable_tells, base_tells}
 use Rattle.mat_exchange.proofs.row_table.RowTable.base.Goals as goal
 

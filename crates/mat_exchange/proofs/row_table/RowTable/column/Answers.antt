@@ -1,5 +1,4 @@
-use Rattle.std.proofs.Common.{◌||◌, ◌∙◌, false, cond, refl, ap}
-use Rattle.mat_sets.specs.Sets.{is_member}
+use Rattle.mat_exchange.proofs.Common.{◌||◌, ◌∙◌, false, cond, refl, ap, is_member}
 use Rattle.mat_exchange.proofs.RowTables.{has_column, column_tells, whole_column}
 use Rattle.mat_exchange.proofs.row_table.RowTable.column.Goals as goal
 

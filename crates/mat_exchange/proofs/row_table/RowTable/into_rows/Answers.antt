@@ -1,4 +1,4 @@
-use Rattle.std.proofs.Common.{length, ◌∙◌, sym, ap}
+use Rattle.mat_exchange.proofs.Common.{length, ◌∙◌, sym, ap}
 use Rattle.mat_exchange.proofs.RowTables.{column_tells, length-table_of, written_row}
 use Rattle.mat_exchange.proofs.row_table.RowTable.into_rows.Goals as goal
 

@@ -1,5 +1,4 @@
-use Rattle.std.proofs.Common.{◌∙◌, ap}
-use Rattle.mat_sets.specs.Sets.{is_member}
+use Rattle.mat_exchange.proofs.Common.{◌∙◌, ap, is_member}
 use Rattle.mat_exchange.proofs.RowTables.{has_column, column_tells}
 use Rattle.mat_exchange.proofs.row_table.RowTable.rest_of_column.Goals as goal
 

@@ -1,5 +1,4 @@
-use Rattle.std.proofs.Common.{◌∙◌, ap, sym}
-use Rattle.mat_sets.specs.Sets.{is_member}
+use Rattle.mat_exchange.proofs.Common.{◌∙◌, ap, sym, is_member}
 use Rattle.mat_exchange.proofs.RowTables.{base_tells, has_row, row_tells}
 use Rattle.mat_exchange.proofs.row_table.RowTable.row.Goals as goal
 

@@ -1,7 +1,4 @@
-use Rattle.std.proofs.Common.{length, get_or, ap, ◌∙◌}
-use Rattle.mat_sets.specs.Sets.{is_member}
-use Rattle.mat_sets.proofs.Sums.{AllBelow-at}
-use Rattle.mat_laws.specs.TightPaths.{exchanges_in}
+use Rattle.mat_exchange.proofs.Common.{length, get_or, ap, ◌∙◌, is_member, AllBelow-at, exchanges_in}
 use Rattle.mat_exchange.proofs.RowTables.{column_tells, has_column}
 use Rattle.mat_exchange.proofs.PutElements.{AreUnited-none, AreUnited-more}
 use Rattle.mat_exchange.proofs.row_table.RowTable.unite_columns.Goals as goal

@@ -1,6 +1,5 @@
-use Rattle.std.proofs.Common.{take}
+use Rattle.mat_exchange.proofs.Common.{take, exchanges_in}
 use Rattle.mat_exchange.proofs.PutElements.{AreUnited}
-use Rattle.mat_laws.specs.TightPaths.{exchanges_in}
 use Rattle.mat_exchange.proofs.row_table.RowTable.unite_columns.Given as goal
 
 abbrev pub invariant-loop-y : goal.invariant-loop-y

@@ -1,6 +1,4 @@
-use Rattle.std.proofs.Common.{length, sym, ◌∙◌}
-use Rattle.mat_sets.proofs.Sums.{AllBelow-at}
-use Rattle.mat_laws.specs.TightPaths.{exchanges_in}
+use Rattle.mat_exchange.proofs.Common.{length, sym, ◌∙◌, AllBelow-at, exchanges_in}
 use Rattle.mat_exchange.proofs.PutElements.{ArePut-none, ArePut-more, ArePut-passed}
 use Rattle.mat_exchange.proofs.row_table.RowTable.unite_unaddable.Goals as goal
 use Rattle.mat_exchange.proofs.row_table.RowTable.unite_unaddable.Goals.{then-not-addable+in_ok-insert, else-not-addable}

@@ -1,5 +1,4 @@
-use Rattle.std.proofs.Common.{take}
-use Rattle.mat_laws.specs.TightPaths.{exchanges_in}
+use Rattle.mat_exchange.proofs.Common.{take, exchanges_in}
 use Rattle.mat_exchange.proofs.PutElements.{ArePut}
 use Rattle.mat_exchange.proofs.row_table.RowTable.unite_unaddable.Given as goal
 

@@ -1,5 +1,4 @@
-use Rattle.std.proofs.Common.{◌∙◌, length, ap, eqb}
-use Rattle.mat_sets.specs.Graphs.{ends_of}
+use Rattle.mat_flow.proofs.Common.{◌∙◌, length, ap, eqb, ends_of}
 use Rattle.mat_flow.proofs.ArcFlows.{is_goal_there}
 use Rattle.mat_flow.proofs.arc_residual.ArcResidualRelation.is_goal.Goals as goal
 

@@ -1,6 +1,4 @@
-use Rattle.std.proofs.Common.{◌∙◌, ap}
-use Rattle.mat_sets.specs.Graphs.{ends_of}
-use Rattle.mat_sets.specs.Sets.{is_member}
+use Rattle.mat_flow.proofs.Common.{◌∙◌, ap, ends_of, is_member}
 use Rattle.mat_flow.proofs.ArcFlows.{row_is_arcs_from}
 use Rattle.mat_flow.proofs.arc_residual.ArcResidualRelation.is_start.Goals as goal
 

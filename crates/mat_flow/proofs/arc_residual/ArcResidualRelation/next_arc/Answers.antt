@@ -1,7 +1,4 @@
-use Rattle.std.proofs.Common.{◌∙◌, ◌&&◌, ◌||◌, length, ap, eqb}
-use Rattle.mat_sets.specs.Graphs.{ends_of}
-use Rattle.mat_sets.specs.Sets.{is_member}
-use Rattle.mat_sets.proofs.Search.{IsNextFrom-same}
+use Rattle.mat_flow.proofs.Common.{◌∙◌, ◌&&◌, ◌||◌, length, ap, eqb, ends_of, is_member, IsNextFrom-same}
 use Rattle.mat_flow.proofs.ArcFlows.{next_there}
 use Rattle.mat_flow.proofs.arc_residual.ArcResidualRelation.next_arc.Goals as goal
 

@@ -1,6 +1,4 @@
-use Rattle.std.proofs.Common.{◌∙◌, ap, subst, sym}
-use Rattle.mat_sets.specs.Graphs.{IsGraph}
-use Rattle.mat_flow.specs.Digraphs.{reversed_arcs}
+use Rattle.mat_flow.proofs.Common.{◌∙◌, ap, subst, sym, IsGraph, reversed_arcs}
 use Rattle.mat_flow.proofs.Rerouting.{IsGraph-reversed}
 use Rattle.mat_flow.proofs.digraph.Digraph.turned.Goals as goal
 

@@ -1,4 +1,4 @@
-use Rattle.mat_sets.specs.Sets.{without_one}
+use Rattle.mat_flow.proofs.Common.{without_one}
 use Rattle.mat_flow.proofs.PathsTakenOut.{HasPathLeft-all}
 use Rattle.mat_flow.proofs.link_table.LinkTable.unlink.Goals as goal
 

@@ -1,5 +1,4 @@
-use Rattle.std.proofs.Common.{sym, subst}
-use Rattle.mat_flow.specs.Trails.{IsReversed}
+use Rattle.mat_flow.proofs.Common.{sym, subst, IsReversed}
 use Rattle.mat_flow.proofs.linker.Linker.into_reroutes.Goals as goal
 
 pub returns : goal.returns

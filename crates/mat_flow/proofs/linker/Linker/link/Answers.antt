@@ -1,8 +1,6 @@
 -- A search in the residual graph either finds a walk, along which the table moves on to paths with one end more, or spends what it reached; either way
 -- what the searches spent still leads to no goal.
-use Rattle.std.proofs.Common.{[], None, Some, subst, sym, arith}
-use Rattle.mat_flow.specs.LinkTables.{IsShifted}
-use Rattle.mat_flow.specs.Seeking.{IsRoom}
+use Rattle.mat_flow.proofs.Common.{[], None, Some, subst, sym, arith, IsShifted, IsRoom}
 use Rattle.mat_flow.proofs.PushedWalks.{after_below, free_walk, pushed, search_tells, shut_pushed, shut_spent}
 use Rattle.mat_flow.proofs.linker.Linker.link.Goals as goal
 

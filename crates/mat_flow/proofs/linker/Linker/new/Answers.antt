@@ -1,4 +1,4 @@
-use Rattle.mat_flow.specs.Seeking.{live_in}
+use Rattle.mat_flow.proofs.Common.{live_in}
 use Rattle.mat_flow.proofs.FirstGoals.{IsShut-all}
 use Rattle.mat_flow.proofs.LinkTables.{AreOwn, IsReversed-own}
 use Rattle.mat_flow.proofs.LinkedEnds.{HasEnds-own}

@@ -1,6 +1,4 @@
-use Rattle.std.proofs.Common.{subst}
-use Rattle.mat_flow.specs.Seeking.{live_in}
-use Rattle.mat_flow.specs.Trails.{IsReversed}
+use Rattle.mat_flow.proofs.Common.{subst, live_in, IsReversed}
 use Rattle.mat_flow.proofs.FirstGoals.{IsShut-all}
 use Rattle.mat_flow.proofs.linker.Linker.of_table.Goals as goal
 

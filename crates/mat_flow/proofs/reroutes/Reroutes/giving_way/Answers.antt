@@ -1,8 +1,5 @@
 -- The search back from the vertex reaches the ends that can give way to it; where it meets a source, a path more is found.
-use Rattle.std.proofs.Common.{[], ◌∙◌, ap, refl, Some, subst}
-use Rattle.std.proofs.lemmas.Bool.{both_ways}
-use Rattle.mat_sets.specs.Sets.{all_below}
-use Rattle.mat_flow.specs.Seeking.{IsRoom}
+use Rattle.mat_flow.proofs.Common.{[], ◌∙◌, ap, refl, Some, subst, both_ways, all_below, IsRoom}
 use Rattle.mat_flow.proofs.FirstGoals.{bits_reach}
 use Rattle.mat_flow.proofs.PushedWalks.{first_search_tells}
 use Rattle.mat_flow.proofs.Rerouting.{only_the_end, reached_tells, searchable}

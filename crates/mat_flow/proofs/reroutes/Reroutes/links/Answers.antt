@@ -1,6 +1,4 @@
-use Rattle.std.proofs.Common.{subst, sym}
-use Rattle.mat_flow.specs.LinkTables.{HasEnds}
-use Rattle.mat_flow.specs.Trails.{IsReversed}
+use Rattle.mat_flow.proofs.Common.{subst, sym, HasEnds, IsReversed}
 use Rattle.mat_flow.proofs.PushedWalks.{after_below, rerouted_table}
 use Rattle.mat_flow.proofs.reroutes.Reroutes.links.Goals as goal
 

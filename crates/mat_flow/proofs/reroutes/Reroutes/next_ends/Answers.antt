@@ -1,7 +1,5 @@
-use Rattle.std.proofs.Common.{subst}
+use Rattle.mat_flow.proofs.Common.{subst, AreLeading, residual_arc, residual_goal}
 use Rattle.std.proofs.lemmas.Result.{IfOk-weaker}
-use Rattle.mat_flow.specs.Leading.{AreLeading}
-use Rattle.mat_flow.specs.LinkTables.{residual_arc, residual_goal}
 use Rattle.mat_flow.proofs.NextEnds.{next_ends_are}
 use Rattle.mat_flow.proofs.Rerouting.{searchable}
 use Rattle.mat_flow.proofs.reroutes.Reroutes.next_ends.Goals as goal

@@ -1,8 +1,4 @@
-use Rattle.std.proofs.Common.{◌≡◌, ◌∙◌, ap, length, replicate, rules, sym}
-use Rattle.std.proofs.lemmas.Bool.{ltb-true}
-use Rattle.std.proofs.lemmas.List.{length-replicate}
-use Rattle.mat_sets.specs.Sets.{is_member}
-use Rattle.mat_sets.proofs.Ground.{is_member-all_below}
+use Rattle.mat_flow.proofs.Common.{◌≡◌, ◌∙◌, ap, length, replicate, rules, sym, ltb-true, length-replicate, is_member, is_member-all_below}
 use Rattle.mat_flow.proofs.seeking.SearchRoom.new.Goals as goal
 
 pub returns-clause-room : goal.returns-clause-room

@@ -1,6 +1,4 @@
-use Rattle.std.proofs.Common.{◌≡◌, ◌+◌, [], get_or, subst, sym, take}
-use Rattle.mat_sets.specs.Sets.{is_member, IsRising}
-use Rattle.mat_sets.proofs.Members.{IsRising-with_one}
+use Rattle.mat_flow.proofs.Common.{◌≡◌, ◌+◌, [], get_or, subst, sym, take, is_member, IsRising, IsRising-with_one}
 use Rattle.mat_flow.proofs.FirstGoals.{put_more}
 use Rattle.mat_flow.proofs.seeking.SearchRoom.reached.Goals as goal
 

@@ -1,5 +1,4 @@
-use Rattle.std.proofs.Common.{◌≡◌, ℕ, take}
-use Rattle.mat_sets.specs.Sets.{is_member, IsRising}
+use Rattle.mat_flow.proofs.Common.{◌≡◌, ℕ, take, is_member, IsRising}
 use Rattle.mat_flow.proofs.seeking.SearchRoom.reached.Given as goal
 
 -- the first of what was found is put in

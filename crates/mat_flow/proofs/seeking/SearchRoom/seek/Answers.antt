@@ -1,8 +1,6 @@
 -- The loop keeps that the found vertices form a chain from the starts and that none before this place has a live arc left; where it ends with a
 -- goal the chain is traced back to a walk, and where it ends without one all that the starts reach was found.
-use Rattle.std.proofs.Common.{◌≡◌, ◌||◌, ℕ, ◌<◌, ◌≤◌, arith, length, get_or, None, refl, sym, subst}
-use Rattle.mat_sets.specs.Sets.{is_member}
-use Rattle.mat_flow.specs.Seeking.{IsChain, IsTake}
+use Rattle.mat_flow.proofs.Common.{◌≡◌, ◌||◌, ℕ, ◌<◌, ◌≤◌, arith, length, get_or, None, refl, sym, subst, is_member, IsChain, IsTake}
 use Rattle.mat_flow.proofs.FirstGoals.{found_below, found_few, look_end, look_found, look_hit, look_next, look_start, index_is, none_is, not_none, IsLooking}
 use Rattle.mat_flow.proofs.seeking.SearchRoom.seek.Goals as goal
 use Rattle.mat_flow.proofs.seeking.SearchRoom.seek.Goals.{then-loop-self-test+else-at-len, else-loop-self-test}

@@ -1,4 +1,4 @@
-use Rattle.std.proofs.Common.{◌-◌}
+use Rattle.mat_flow.proofs.Common.{◌-◌}
 use Rattle.mat_flow.proofs.FirstGoals.{IsLooking}
 use Rattle.mat_flow.proofs.seeking.SearchRoom.seek.Given as goal
 

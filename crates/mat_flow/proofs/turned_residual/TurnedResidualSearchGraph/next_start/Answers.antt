@@ -1,4 +1,4 @@
-use Rattle.std.proofs.Common.{sym, ◌∙◌, arith}
+use Rattle.mat_flow.proofs.Common.{sym, ◌∙◌, arith}
 use Rattle.mat_flow.proofs.PushedWalks.{first_start, no_start, no_start_live}
 use Rattle.mat_flow.proofs.turned_residual.TurnedResidualSearchGraph.next_start.Goals as goal
 use Rattle.mat_flow.proofs.turned_residual.TurnedResidualSearchGraph.next_start.Goals.{else-from-self-via-then-from-self+else-contains, else-from-self-via-else-from-self}

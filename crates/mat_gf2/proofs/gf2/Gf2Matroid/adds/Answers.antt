@@ -1,11 +1,6 @@
 -- A column that fails a parity check is no sum of columns of the set; one that passes all is such a sum if nothing is left of it.
-use Rattle.std.proofs.Common.{◌≡◌, ◌∙◌, true, false, not, inl, inr, refl, sym, ap, get_or}
-use Rattle.std.proofs.lemmas.Bool.{cases_eq, eq-eqb, ne_eqb}
+use Rattle.mat_gf2.proofs.Common.{◌≡◌, ◌∙◌, true, false, not, inl, inr, refl, sym, ap, get_or, cases_eq, eq-eqb, ne_eqb, Exchange, TaggedColumn, inner_product_is_one, marked, reduced_tagged_by}
 use Rattle.std.specs.List.{list_any}
-use Rattle.mat_laws.specs.declared.exchange.Exchange.{Exchange}
-use Rattle.mat_gf2.specs.declared.elimination.TaggedColumn.{TaggedColumn}
-use Rattle.mat_gf2.specs.InnerProducts.{inner_product_is_one}
-use Rattle.mat_gf2.specs.TaggedColumns.{marked, reduced_tagged_by}
 use Rattle.mat_gf2.proofs.Circuits.{row_of_marked, row_of_addable}
 use Rattle.mat_gf2.proofs.ParityChecks.{left_of_failing}
 use Rattle.mat_gf2.proofs.gf2.Gf2Matroid.adds.Goals as goal

@@ -1,5 +1,4 @@
-use Rattle.std.proofs.Common.{◌≡◌, ◌∙◌, ap, subst, IfOk}
-use Rattle.mat_gf2.specs.Columns.{column_of, is_linearly_independent}
+use Rattle.mat_gf2.proofs.Common.{◌≡◌, ◌∙◌, ap, subst, IfOk, column_of, is_linearly_independent}
 use Rattle.mat_gf2.proofs.Eliminating.{is_gf2-answer}
 use Rattle.mat_gf2.proofs.gf2.Gf2Matroid.independent.Goals as goal
 

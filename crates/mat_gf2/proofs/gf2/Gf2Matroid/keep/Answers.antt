@@ -1,11 +1,4 @@
-use Rattle.std.proofs.Common.{◌≡◌, ◌∙◌, All, sym, ap, subst, length}
-use Rattle.std.proofs.lemmas.Bool.{and_parts}
-use Rattle.mat_sets.specs.Sets.{AllBelow}
-use Rattle.mat_sets.specs.SetTests.{is_set}
-use Rattle.mat_sets.proofs.SetTests.{IsSet-from_test}
-use Rattle.mat_gf2.specs.Columns.{column_of, is_linearly_independent}
-use Rattle.mat_gf2.specs.ParityChecks.{IsParityCheck}
-use Rattle.mat_gf2.specs.TaggedColumns.{IsTaggedBasis}
+use Rattle.mat_gf2.proofs.Common.{◌≡◌, ◌∙◌, All, sym, ap, subst, length, and_parts, AllBelow, is_set, IsSet-from_test, column_of, is_linearly_independent, IsParityCheck, IsTaggedBasis}
 use Rattle.mat_gf2.proofs.Dimensions.{independent-few}
 use Rattle.mat_gf2.proofs.gf2.Gf2Matroid.keep.Goals as goal
 

@@ -1,7 +1,4 @@
-use Rattle.std.proofs.Common.{◌≡◌, ◌∙◌, true, false, refl, ap, get_or}
-use Rattle.mat_laws.specs.declared.exchange.Exchange.{Exchange}
-use Rattle.mat_gf2.specs.declared.elimination.TaggedColumn.{TaggedColumn}
-use Rattle.mat_gf2.specs.TaggedColumns.{reduced_tagged_by}
+use Rattle.mat_gf2.proofs.Common.{◌≡◌, ◌∙◌, true, false, refl, ap, get_or, Exchange, TaggedColumn, reduced_tagged_by}
 use Rattle.mat_gf2.proofs.Dimensions.{independent-few}
 use Rattle.mat_gf2.proofs.Circuits.{row_of_marked, row_of_addable}
 use Rattle.mat_gf2.proofs.gf2.Gf2Matroid.row.Goals as goal

@@ -1,10 +1,6 @@
-use Rattle.std.proofs.Common.{◌∙◌, get_or, subst, sym, arith}
-use Rattle.mat_sets.specs.Graphs.{ends_of}
+use Rattle.mat_graphic.proofs.Common.{◌∙◌, get_or, subst, sym, arith, ends_of, IsLeastReached, least_merged, IsParentTable}
 use Rattle.mat_sets.proofs.Steps.{written_back}
-use Rattle.mat_graphic.specs.Forests.{IsLeastReached}
-use Rattle.mat_graphic.specs.Mergings.{least_merged}
 use Rattle.mat_graphic.proofs.ComponentCounts.{least_merged-is}
-use Rattle.mat_graphic.specs.ParentTables.{IsParentTable}
 use Rattle.mat_graphic.proofs.graphic.Graphic.components.Goals as goal
 
 pub returns-clause-least : goal.returns-clause-least

@@ -1,9 +1,5 @@
 -- An edge between two trees enters all columns; one within a tree enters those of the trail between its ends.
-use Rattle.std.proofs.Common.{◌∙◌, length, subst, sym}
-use Rattle.std.proofs.lemmas.Result.{on_ok_weaker}
-use Rattle.mat_sets.specs.Graphs.{ends_of}
-use Rattle.mat_sets.specs.Sets.{AllBelow}
-use Rattle.mat_graphic.specs.ForestLaws.{graphic_laws}
+use Rattle.mat_graphic.proofs.Common.{◌∙◌, length, subst, sym, on_ok_weaker, ends_of, AllBelow, graphic_laws}
 use Rattle.mat_graphic.proofs.EnteredTrails.{all_entered, trail_entered}
 use Rattle.mat_graphic.proofs.graphic.Graphic.enter_exchanges.Goals as goal
 

@@ -1,7 +1,5 @@
-use Rattle.std.proofs.Common.{◌∙◌, not, length, sym, ap}
-use Rattle.mat_sets.specs.Graphs.{ends_of}
+use Rattle.mat_graphic.proofs.Common.{◌∙◌, not, length, sym, ap, ends_of, is_graphic}
 use Rattle.mat_laws.proofs.Rows.{row_of-adds}
-use Rattle.mat_graphic.specs.Forests.{is_graphic}
 use Rattle.mat_graphic.proofs.GraphicRuns.{enters_apart}
 use Rattle.mat_graphic.proofs.graphic.GraphicMatroid.adds.Goals as goal
 

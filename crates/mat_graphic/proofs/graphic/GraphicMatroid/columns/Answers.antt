@@ -1,12 +1,6 @@
 -- Each edge outside the base is entered in the columns of the members that it can be exchanged for; those of the edges so far are complete.
-use Rattle.std.proofs.Common.{◌<◌, [], length, refl, subst, sym, ap, ◌∙◌, arith}
-use Rattle.std.proofs.lemmas.List.{length-replicate}
-use Rattle.mat_sets.specs.Graphs.{ends_of}
-use Rattle.mat_sets.specs.Sets.{is_member, AllBelow}
-use Rattle.mat_laws.specs.Exchanges.{row_of}
+use Rattle.mat_graphic.proofs.Common.{◌<◌, [], length, refl, subst, sym, ap, ◌∙◌, arith, length-replicate, ends_of, is_member, AllBelow, row_of, AreEntering-none, AreEntering-entered, AreEntering-passed, is_graphic}
 use Rattle.mat_laws.proofs.Independent.{below}
-use Rattle.mat_laws.proofs.ColumnSteps.{AreEntering-none, AreEntering-entered, AreEntering-passed}
-use Rattle.mat_graphic.specs.Forests.{is_graphic}
 use Rattle.mat_graphic.proofs.EnteredTrails.{AreEntering-all}
 use Rattle.mat_graphic.proofs.graphic.GraphicMatroid.columns.Goals as goal
 use Rattle.mat_graphic.proofs.graphic.GraphicMatroid.columns.Goals.{then-not-contains+in_ok-enter_exchanges, else-not-contains}

@@ -1,7 +1,4 @@
-use Rattle.std.proofs.Common.{length}
-use Rattle.mat_sets.specs.Graphs.{ends_of}
-use Rattle.mat_laws.proofs.ColumnSteps.{AreEntering}
-use Rattle.mat_graphic.specs.Forests.{is_graphic}
+use Rattle.mat_graphic.proofs.Common.{length, ends_of, AreEntering, is_graphic}
 use Rattle.mat_graphic.proofs.graphic.GraphicMatroid.columns.Given as goal
 
 abbrev pub invariant-loop-x : goal.invariant-loop-x

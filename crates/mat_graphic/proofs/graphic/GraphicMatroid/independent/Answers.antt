@@ -1,7 +1,4 @@
-use Rattle.std.proofs.Common.{length, ap, ◌∙◌}
-use Rattle.mat_sets.specs.Graphs.{ends_of}
-use Rattle.mat_sets.proofs.SetTests.{is_set-true}
-use Rattle.mat_graphic.specs.Forests.{is_forest}
+use Rattle.mat_graphic.proofs.Common.{length, ap, ◌∙◌, ends_of, is_set-true, is_forest}
 use Rattle.mat_graphic.proofs.graphic.GraphicMatroid.independent.Goals as goal
 
 pub returns : goal.returns

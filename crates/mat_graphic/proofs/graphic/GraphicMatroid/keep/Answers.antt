@@ -1,4 +1,4 @@
-use Rattle.std.proofs.Common.{sym}
+use Rattle.mat_graphic.proofs.Common.{sym}
 use Rattle.mat_graphic.proofs.graphic.GraphicMatroid.keep.Goals as goal
 
 pub root_trees-requires-clause-graph : goal.root_trees-requires-clause-graph

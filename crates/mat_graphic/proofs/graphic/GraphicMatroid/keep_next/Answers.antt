@@ -1,9 +1,5 @@
 -- The new edge is one of the graph, so its ends are vertices that the forest has found; the forest with it is one of the next set.
-use Rattle.std.proofs.Common.{◌||◌, eqb, length, refl, sym, ap, ◌∙◌}
-use Rattle.std.proofs.lemmas.Bool.{eq-eqb, or_left}
-use Rattle.mat_sets.specs.Graphs.{ends_of}
-use Rattle.mat_sets.specs.Sets.{is_member}
-use Rattle.mat_sets.proofs.Ground.{AllBelow-member}
+use Rattle.mat_graphic.proofs.Common.{◌||◌, eqb, length, refl, sym, ap, ◌∙◌, eq-eqb, or_left, ends_of, is_member, AllBelow-member}
 use Rattle.mat_graphic.proofs.graphic.GraphicMatroid.keep_next.Goals as goal
 
 pub get-first-requires : goal.get-first-requires

@@ -1,5 +1,4 @@
-use Rattle.std.proofs.Common.{false, true, length, refl, sym}
-use Rattle.mat_sets.specs.Graphs.{ends_of}
+use Rattle.mat_graphic.proofs.Common.{false, true, length, refl, sym, ends_of}
 use Rattle.mat_graphic.proofs.EdgeRows.{row-apart, row-trail}
 use Rattle.mat_graphic.proofs.graphic.GraphicMatroid.row.Goals as goal
 

@@ -1,5 +1,4 @@
-use Rattle.std.proofs.Common.{◌∙◌, arith}
-use Rattle.mat_sets.proofs.Members.{with_one-member}
+use Rattle.mat_laws.proofs.Common.{◌∙◌, arith, with_one-member}
 use Rattle.mat_laws.proofs.matroid.Matroid.add_if_independent.Goals as goal
 
 pub returns-then-not-branch-clause-set : goal.returns-then-not-branch-clause-set

@@ -1,5 +1,4 @@
-use Rattle.std.proofs.Common.{ap}
-use Rattle.mat_laws.specs.declared.exchange.Exchange.{Exchange}
+use Rattle.mat_laws.proofs.Common.{ap, Exchange}
 use Rattle.mat_laws.proofs.matroid.Matroid.adds.Goals as goal
 
 pub returns : goal.returns

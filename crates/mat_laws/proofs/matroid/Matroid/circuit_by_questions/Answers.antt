@@ -1,9 +1,5 @@
 -- Each member is taken out in turn: x can take its place if the rest with x is independent.
-use Rattle.std.proofs.Common.{◌∙◌, subst, sym, ap, length, get_or, ◌<◌, ◌≤◌}
-use Rattle.mat_sets.specs.Sets.{AllBelow, with_one, without_one}
-use Rattle.mat_sets.proofs.Changes.{AllBelow-with_one}
-use Rattle.mat_sets.proofs.Ground.{AllBelow-subset}
-use Rattle.mat_sets.proofs.Subsets.{without_one-IsSubset}
+use Rattle.mat_laws.proofs.Common.{◌∙◌, subst, sym, ap, length, get_or, ◌<◌, ◌≤◌, AllBelow, with_one, without_one, AllBelow-with_one, AllBelow-subset, without_one-IsSubset}
 use Rattle.mat_laws.proofs.Independent.{rising, below}
 use Rattle.mat_laws.proofs.Rows.{IsCollecting-start, IsCollecting-found, IsCollecting-passed, IsCollecting-end, row_outside}
 use Rattle.mat_laws.proofs.matroid.Matroid.circuit_by_questions.Goals as goal

@@ -1,6 +1,4 @@
-use Rattle.std.proofs.Common.{◌<◌, [], length, subst, sym, ap, ◌∙◌, arith}
-use Rattle.std.proofs.lemmas.List.{length-replicate}
-use Rattle.mat_sets.specs.Sets.{is_member, AllBelow}
+use Rattle.mat_laws.proofs.Common.{◌<◌, [], length, subst, sym, ap, ◌∙◌, arith, length-replicate, is_member, AllBelow}
 use Rattle.mat_laws.proofs.ColumnSteps.{row_below, AreEntering-none, AreEntering-entered, AreEntering-passed}
 use Rattle.mat_laws.proofs.Independent.{below}
 use Rattle.mat_laws.proofs.matroid.Matroid.columns.Goals as goal

@@ -1,8 +1,5 @@
-use Rattle.std.proofs.Common.{[], subst, sym, ap, ◌∙◌}
+use Rattle.mat_laws.proofs.Common.{[], subst, sym, ap, ◌∙◌, AllBelow, AreDistinct, IsSubset, union, grown_along, IsMaximal}
 use Rattle.std.proofs.lemmas.Result.{IfOk-weaker}
-use Rattle.mat_sets.specs.Sets.{AllBelow, AreDistinct, IsSubset, union}
-use Rattle.mat_laws.specs.GreedyRuns.{grown_along}
-use Rattle.mat_laws.specs.Matroids.{IsMaximal}
 use Rattle.mat_laws.proofs.Independent.{rising, below}
 use Rattle.mat_laws.proofs.GreedyRunSets.{run_maximal_from, run_holds, order_below, order_distinct}
 use Rattle.mat_laws.proofs.matroid.Matroid.grown_base.Goals as goal

@@ -1,4 +1,4 @@
-use Rattle.std.proofs.Common.{refl}
+use Rattle.mat_laws.proofs.Common.{refl}
 use Rattle.mat_sets.proofs.Sums.{AllBelow-at}
 use Rattle.mat_laws.proofs.Independent.{below}
 use Rattle.mat_laws.proofs.GreedyRunSteps.{IsRunning-start, IsRunning-next, IsRunning-end}

@@ -1,6 +1,4 @@
-use Rattle.std.proofs.Common.{◌&&◌, ◌∙◌, subst}
-use Rattle.mat_sets.specs.Search.{IsNextFrom}
-use Rattle.mat_sets.specs.Sets.{is_member}
+use Rattle.mat_linked.proofs.Common.{◌&&◌, ◌∙◌, subst, IsNextFrom, is_member}
 use Rattle.mat_linked.proofs.Searching.{adds_told}
 use Rattle.mat_linked.proofs.kept_matching.KeptMatching.adds.Goals as goal
 

@@ -1,8 +1,4 @@
-use Rattle.std.proofs.Common.{◌≡◌, ◌∙◌, ap, length, None, replicate, rules, subst, sym}
-use Rattle.std.proofs.lemmas.List.{length-replicate}
-use Rattle.std.proofs.lemmas.Result.{IfOk-weaker}
-use Rattle.mat_linked.specs.KeptMatchings.{LeadToFree}
-use Rattle.mat_linked.specs.Matchings.{IsMatching}
+use Rattle.mat_linked.proofs.Common.{◌≡◌, ◌∙◌, ap, length, None, replicate, rules, subst, sym, length-replicate, IfOk-weaker, LeadToFree, IsMatching}
 use Rattle.mat_linked.proofs.KeptRows.{IsMatching-any_rows, LeadToFree-any_rows}
 use Rattle.mat_linked.proofs.MatchableSets.{element_below}
 use Rattle.mat_linked.proofs.NewMatches.{IsMatching-none_common}

@@ -1,9 +1,5 @@
-use Rattle.std.proofs.Common.{◌∙◌, ap, length, subst, sym}
-use Rattle.std.proofs.lemmas.Result.{IfOk-weaker}
-use Rattle.mat_sets.specs.Sets.{minus}
-use Rattle.mat_linked.specs.Matchings.{IsMatching}
+use Rattle.mat_linked.proofs.Common.{◌∙◌, ap, length, subst, sym, IfOk-weaker, minus, IsMatching, LeadToFree}
 use Rattle.mat_linked.proofs.GrownSets.{minus-minus}
-use Rattle.mat_linked.specs.KeptMatchings.{LeadToFree}
 use Rattle.mat_linked.proofs.KeptRows.{IsMatching-any_rows, LeadToFree-any_rows}
 use Rattle.mat_linked.proofs.MatchableSets.{element_below}
 use Rattle.mat_linked.proofs.kept_matching.KeptMatching.next.Goals as goal

@@ -1,9 +1,5 @@
 -- The search ends at a free set, so that x can be added, or comes to an end; then x can take the place of the members that it reached.
-use Rattle.std.proofs.Common.{◌≡◌, ◌∙◌, ap, length, sym, vec_len, rules, subst, arith}
-use Rattle.std.proofs.lemmas.Bool.{and_parts}
-use Rattle.mat_sets.proofs.Ground.{AllBelow-from_members}
-use Rattle.mat_flow.specs.Seeking.{IsRoom}
-use Rattle.mat_linked.specs.Matchings.{is_matched_among}
+use Rattle.mat_linked.proofs.Common.{◌≡◌, ◌∙◌, ap, length, sym, vec_len, rules, subst, arith, and_parts, AllBelow-from_members, IsRoom, is_matched_among}
 use Rattle.mat_linked.proofs.KeptRows.{row_added}
 use Rattle.mat_linked.proofs.Searching.{may_search, row_spent}
 use Rattle.mat_linked.proofs.kept_matching.KeptMatching.row.Goals as goal

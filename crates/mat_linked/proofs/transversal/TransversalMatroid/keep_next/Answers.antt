@@ -1,4 +1,4 @@
-use Rattle.std.proofs.Common.{◌∙◌, ap, length, sym}
+use Rattle.mat_linked.proofs.Common.{◌∙◌, ap, length, sym}
 use Rattle.mat_linked.proofs.KeptRows.{base_below, base_matchable, indices_of}
 use Rattle.mat_linked.proofs.transversal.TransversalMatroid.keep_next.Goals as goal
 

@@ -1,6 +1,4 @@
-use Rattle.std.proofs.Common.{subst}
-use Rattle.mat_sets.specs.Sets.{IsRising}
-use Rattle.mat_laws.proofs.Growing.{maximal_from_none}
+use Rattle.mat_minors.proofs.Common.{subst, IsRising, maximal_from_none}
 use Rattle.mat_minors.proofs.contraction.Contraction.new.Goals as goal
 
 pub returns-clause-sound : goal.returns-clause-sound

@@ -1,9 +1,4 @@
-use Rattle.std.proofs.Common.{◌≡◌, subst, sym, ap, ◌∙◌}
-use Rattle.std.proofs.lemmas.Bool.{both_ways}
-use Rattle.std.proofs.lemmas.Result.{IfOk-weaker}
-use Rattle.mat_sets.specs.Sets.{AllBelow}
-use Rattle.mat_sets.proofs.Ground.{IsSet-union}
-use Rattle.mat_minors.specs.Minors.{is_contracted}
+use Rattle.mat_minors.proofs.Common.{◌≡◌, subst, sym, ap, ◌∙◌, both_ways, IfOk-weaker, AllBelow, IsSet-union, is_contracted}
 use Rattle.mat_minors.proofs.Joining.{dependent_where_met}
 use Rattle.mat_minors.proofs.MinorRows.{contracted_apart}
 use Rattle.mat_minors.proofs.contraction.ContractionMatroid.independent.Goals as goal

@@ -1,4 +1,4 @@
-use Rattle.std.proofs.Common.{refl, sym, ◌∙◌}
+use Rattle.mat_minors.proofs.Common.{refl, sym, ◌∙◌}
 use Rattle.mat_minors.proofs.MinorRows.{contracted_row_outside, joined_outside, joined_passes, joined_row}
 use Rattle.mat_minors.proofs.contraction.ContractionMatroid.row.Goals as goal
 

@@ -1,9 +1,4 @@
-use Rattle.std.proofs.Common.{◌≡◌, [], subst, sym, ap, ◌∙◌}
-use Rattle.std.proofs.lemmas.Result.{IfOk-weaker}
-use Rattle.mat_sets.specs.Sets.{AllBelow, AreDistinct, minus}
-use Rattle.mat_laws.specs.GreedyRuns.{grown_along}
-use Rattle.mat_minors.specs.Minors.{is_contracted}
-use Rattle.mat_minors.specs.MinorLaws.{contracted_laws}
+use Rattle.mat_minors.proofs.Common.{◌≡◌, [], subst, sym, ap, ◌∙◌, IfOk-weaker, AllBelow, AreDistinct, minus, grown_along, is_contracted, contracted_laws}
 use Rattle.mat_minors.proofs.MinorRuns.{contracted_greedy}
 use Rattle.mat_minors.proofs.RunOrders.{after_below, after_distinct}
 use Rattle.mat_minors.proofs.contraction.ContractionMatroid.run.Goals as goal

@@ -1,4 +1,4 @@
-use Rattle.mat_sets.proofs.Ground.{AreDistinct-rising}
+use Rattle.mat_minors.proofs.Common.{AreDistinct-rising}
 use Rattle.mat_minors.proofs.GreedyReversed.{dual_by_run}
 use Rattle.mat_minors.proofs.dual.DualMatroid.independent.Goals as goal
 

@@ -1,6 +1,4 @@
-use Rattle.std.proofs.Common.{subst, sym, ap, ◌∙◌}
-use Rattle.mat_sets.specs.Sets.{AllBelow, minus, all_below}
-use Rattle.mat_sets.proofs.Ground.{IsSet-minus, IsSet-all_below}
+use Rattle.mat_minors.proofs.Common.{subst, sym, ap, ◌∙◌, AllBelow, minus, all_below, IsSet-minus, IsSet-all_below}
 use Rattle.mat_minors.proofs.DualExchanges.{kept_is}
 use Rattle.mat_minors.proofs.dual.DualMatroid.keep.Goals as goal
 

@@ -1,4 +1,4 @@
-use Rattle.std.proofs.Common.{sym, ◌∙◌}
+use Rattle.mat_minors.proofs.Common.{sym, ◌∙◌}
 use Rattle.mat_minors.proofs.DualNext.{kept_of_next}
 use Rattle.mat_minors.proofs.dual.DualMatroid.keep_next.Goals as goal
 

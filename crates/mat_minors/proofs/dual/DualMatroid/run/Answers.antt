@@ -1,8 +1,4 @@
-use Rattle.std.proofs.Common.{◌≡◌, ◌++◌, [], reverse, subst, sym, ap, ◌∙◌}
-use Rattle.std.proofs.lemmas.Result.{IfOk-weaker}
-use Rattle.mat_sets.specs.Sets.{AllBelow, AreDistinct, minus, all_below}
-use Rattle.mat_laws.specs.GreedyRuns.{grown_along}
-use Rattle.mat_minors.specs.Minors.{is_dual}
+use Rattle.mat_minors.proofs.Common.{◌≡◌, ◌++◌, [], reverse, subst, sym, ap, ◌∙◌, IfOk-weaker, AllBelow, AreDistinct, minus, all_below, grown_along, is_dual}
 use Rattle.mat_minors.proofs.GreedyReversed.{dual_greedy_of}
 use Rattle.mat_minors.proofs.RunOrders.{turned_below, turned_distinct}
 use Rattle.mat_minors.proofs.dual.DualMatroid.run.Goals as goal

@@ -1,7 +1,4 @@
-use Rattle.std.proofs.Common.{◌≡◌, sym, ◌∙◌}
-use Rattle.std.proofs.lemmas.Bool.{both_ways}
-use Rattle.std.proofs.lemmas.Result.{IfOk-weaker}
-use Rattle.mat_minors.specs.Minors.{is_restricted}
+use Rattle.mat_minors.proofs.Common.{◌≡◌, sym, ◌∙◌, both_ways, IfOk-weaker, is_restricted}
 use Rattle.mat_minors.proofs.Joining.{restricted_inside, dependent_outside}
 use Rattle.mat_minors.proofs.restriction.RestrictionMatroid.independent.Goals as goal
 

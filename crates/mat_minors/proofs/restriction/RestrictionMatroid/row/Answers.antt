@@ -1,5 +1,4 @@
-use Rattle.std.proofs.Common.{refl, sym, ◌∙◌}
-use Rattle.std.proofs.lemmas.Result.{IfOk-weaker}
+use Rattle.mat_minors.proofs.Common.{refl, sym, ◌∙◌, IfOk-weaker}
 use Rattle.mat_minors.proofs.MinorRows.{restricted_row, restricted_row_outside}
 use Rattle.mat_minors.proofs.restriction.RestrictionMatroid.row.Goals as goal
 

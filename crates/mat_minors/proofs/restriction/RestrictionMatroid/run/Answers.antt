@@ -1,11 +1,4 @@
-use Rattle.std.proofs.Common.{◌≡◌, [], subst, sym, ap, ◌∙◌}
-use Rattle.std.proofs.lemmas.Result.{IfOk-weaker}
-use Rattle.mat_sets.specs.Sets.{is_member, AllBelow, AreDistinct}
-use Rattle.mat_sets.proofs.DistinctLists.{AreDistinct-filter}
-use Rattle.mat_sets.proofs.Ground.{AllBelow-filter}
-use Rattle.mat_laws.specs.GreedyRuns.{grown_along}
-use Rattle.mat_minors.specs.Minors.{is_restricted}
-use Rattle.mat_minors.specs.MinorLaws.{restricted_laws}
+use Rattle.mat_minors.proofs.Common.{◌≡◌, [], subst, sym, ap, ◌∙◌, IfOk-weaker, is_member, AllBelow, AreDistinct, AreDistinct-filter, AllBelow-filter, grown_along, is_restricted, restricted_laws}
 use Rattle.mat_minors.proofs.MinorRuns.{restricted_along}
 use Rattle.mat_minors.proofs.restriction.RestrictionMatroid.run.Goals as goal
 

@@ -1,4 +1,4 @@
-use Rattle.std.proofs.Common.{◌&&◌, ltb, ap, ◌∙◌}
+use Rattle.mat_minors.proofs.Common.{◌&&◌, ltb, ap, ◌∙◌}
 use Rattle.mat_minors.proofs.MinorRows.{truncated_row}
 use Rattle.mat_minors.proofs.truncation.TruncationMatroid.row.Goals as goal
 

@@ -1,9 +1,4 @@
-use Rattle.std.proofs.Common.{◌≡◌, ℕ, List, Bool, []}
-use Rattle.std.proofs.lemmas.Result.{IfOk-weaker}
-use Rattle.mat_sets.specs.Sets.{AreDistinct}
-use Rattle.mat_laws.specs.GreedyRuns.{grown_along}
-use Rattle.mat_laws.specs.Matroids.{IsMatroid}
-use Rattle.mat_minors.specs.Minors.{is_truncated}
+use Rattle.mat_minors.proofs.Common.{◌≡◌, ℕ, List, Bool, [], IfOk-weaker, AreDistinct, grown_along, IsMatroid, is_truncated}
 use Rattle.mat_minors.proofs.truncation.TruncationMatroid.run.Goals as goal
 
 pub returns : goal.returns

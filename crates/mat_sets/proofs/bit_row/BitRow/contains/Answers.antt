@@ -1,6 +1,4 @@
-use Rattle.std.proofs.Common.{◌<◌, ◌/◌, length, get_or, arith, sym, ◌∙◌}
-use Rattle.std.proofs.lemmas.Bool.{le-ltb}
-use Rattle.std.proofs.lemmas.List.{get_or_default}
+use Rattle.mat_sets.proofs.Common.{◌<◌, ◌/◌, length, get_or, arith, sym, ◌∙◌, le-ltb, get_or_default}
 use Rattle.mat_sets.proofs.Bits.{missing_past, read_bit}
 use Rattle.mat_sets.proofs.bit_row.BitRow.contains.Goals as goal
 

@@ -1,6 +1,4 @@
-use Rattle.std.proofs.Common.{◌<◌, ◌/◌, ◌∙◌, length, get_or, arith, ap}
-use Rattle.std.proofs.lemmas.List.{get_or_default}
-use Rattle.mat_sets.specs.Sets.{with_one}
+use Rattle.mat_sets.proofs.Common.{◌<◌, ◌/◌, ◌∙◌, length, get_or, arith, ap, get_or_default, with_one}
 use Rattle.mat_sets.proofs.Bits.{bits_of-put}
 use Rattle.mat_sets.proofs.bit_row.BitRow.insert.Goals as goal
 

@@ -1,5 +1,4 @@
-use Rattle.std.proofs.Common.{◌<◌, ◌++◌, [], ◌∷◌, length, arith, sym, ap, ◌∙◌}
-use Rattle.std.proofs.lemmas.List.{get_or_read, take_all, take_more}
+use Rattle.mat_sets.proofs.Common.{◌<◌, ◌++◌, [], ◌∷◌, length, arith, sym, ap, ◌∙◌, get_or_read, take_all, take_more}
 use Rattle.mat_sets.proofs.bit_rows.BitRows.copy.Goals as goal
 
 pub loop-at-preserved : goal.loop-at-preserved

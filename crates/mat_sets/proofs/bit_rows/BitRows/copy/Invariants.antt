@@ -1,4 +1,4 @@
-use Rattle.std.proofs.Common.{◌≡◌, take}
+use Rattle.mat_sets.proofs.Common.{◌≡◌, take}
 use Rattle.mat_sets.proofs.bit_rows.BitRows.copy.Given as goal
 
 -- the first rows are copied

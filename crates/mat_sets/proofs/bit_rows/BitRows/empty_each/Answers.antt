@@ -1,5 +1,4 @@
-use Rattle.std.proofs.Common.{◌+◌, length, take, arith, subst, sym}
-use Rattle.mat_sets.specs.Rows.{AreEmptied}
+use Rattle.mat_sets.proofs.Common.{◌+◌, length, take, arith, subst, sym, AreEmptied}
 use Rattle.mat_sets.proofs.Rows.{AreEmptied-none, AreEmptied-more}
 use Rattle.mat_sets.proofs.Sums.{AllBelow-at}
 use Rattle.mat_sets.proofs.bit_rows.BitRows.empty_each.Goals as goal

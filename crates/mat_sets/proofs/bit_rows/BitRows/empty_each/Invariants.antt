@@ -1,5 +1,4 @@
-use Rattle.std.proofs.Common.{take}
-use Rattle.mat_sets.specs.Rows.{AreEmptied}
+use Rattle.mat_sets.proofs.Common.{take, AreEmptied}
 use Rattle.mat_sets.proofs.bit_rows.BitRows.empty_each.Given as goal
 
 -- the rows at the first places are empty

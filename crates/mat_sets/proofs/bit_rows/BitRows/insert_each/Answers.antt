@@ -1,5 +1,4 @@
-use Rattle.std.proofs.Common.{◌+◌, length, take, arith, refl, subst, sym}
-use Rattle.mat_sets.specs.Rows.{IsEntered}
+use Rattle.mat_sets.proofs.Common.{◌+◌, length, take, arith, refl, subst, sym, IsEntered}
 use Rattle.mat_sets.proofs.Rows.{IsEntered-more}
 use Rattle.mat_sets.proofs.Sums.{AllBelow-at}
 use Rattle.mat_sets.proofs.bit_rows.BitRows.insert_each.Goals as goal

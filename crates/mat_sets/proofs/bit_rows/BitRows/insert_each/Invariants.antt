@@ -1,5 +1,4 @@
-use Rattle.std.proofs.Common.{take}
-use Rattle.mat_sets.specs.Rows.{IsEntered}
+use Rattle.mat_sets.proofs.Common.{take, IsEntered}
 use Rattle.mat_sets.proofs.bit_rows.BitRows.insert_each.Given as goal
 
 -- k stands in the rows at the first places

@@ -1,6 +1,4 @@
-use Rattle.std.proofs.Common.{◌<◌, ◌≤◌, ◌&&◌, not, [], length, arith, ap, refl, sym, ◌∙◌}
-use Rattle.std.proofs.lemmas.List.{length-set, get_or_read}
-use Rattle.mat_sets.specs.Sets.{is_member}
+use Rattle.mat_sets.proofs.Common.{◌<◌, ◌≤◌, ◌&&◌, not, [], length, arith, ap, refl, sym, ◌∙◌, length-set, get_or_read, is_member}
 use Rattle.mat_sets.proofs.Rows.{removed_none, removed_next, removed_all}
 use Rattle.mat_sets.proofs.bit_rows.BitRows.remove_from_each.Goals as goal
 

@@ -1,5 +1,4 @@
-use Rattle.std.proofs.Common.{rules, arith, ◌≡◌, ◌∙◌, ◌^◌, ◌/◌, ◌%◌, ◌-◌, ◌*◌, ◌++◌, ◌∷◌, [], replicate}
-use Rattle.std.proofs.lemmas.Nat.{one_shl}
+use Rattle.mat_sets.proofs.Common.{rules, arith, ◌≡◌, ◌∙◌, ◌^◌, ◌/◌, ◌%◌, ◌-◌, ◌*◌, ◌++◌, ◌∷◌, [], replicate, one_shl}
 use Rattle.mat_sets.proofs.Bits.{bits_of-full}
 use Rattle.mat_sets.proofs.bit_set.BitSet.all_below.Goals as goal
 

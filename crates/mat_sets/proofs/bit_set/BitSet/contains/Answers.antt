@@ -1,5 +1,4 @@
-use Rattle.std.proofs.Common.{arith, sym, ◌∙◌}
-use Rattle.std.proofs.lemmas.Bool.{le-ltb}
+use Rattle.mat_sets.proofs.Common.{arith, sym, ◌∙◌, le-ltb}
 use Rattle.mat_sets.proofs.Bits.{missing_past, read_bit}
 use Rattle.mat_sets.proofs.bit_set.BitSet.contains.Goals as goal
 

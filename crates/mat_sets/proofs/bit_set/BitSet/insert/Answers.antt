@@ -1,4 +1,4 @@
-use Rattle.std.proofs.Common.{rules, arith}
+use Rattle.mat_sets.proofs.Common.{rules, arith}
 use Rattle.mat_sets.proofs.Bits.{bits_of-put}
 use Rattle.mat_sets.proofs.bit_set.BitSet.insert.Goals as goal
 

@@ -1,5 +1,4 @@
-use Rattle.std.proofs.Common.{◌≡◌, ◌+◌, ◌*◌, subst, sym, arith}
-use Rattle.mat_sets.specs.Bits.{bits_of, AreMembersBelow}
+use Rattle.mat_sets.proofs.Common.{◌≡◌, ◌+◌, ◌*◌, subst, sym, arith, bits_of, AreMembersBelow}
 use Rattle.mat_sets.proofs.BitMembers.{AreMembersBelow-none, AreMembersBelow-all}
 use Rattle.mat_sets.proofs.Bits.{is_member-at, none_past, IsRising-bits_of}
 use Rattle.mat_sets.proofs.bit_set.BitSet.members.Goals as goal

@@ -1,5 +1,4 @@
-use Rattle.std.proofs.Common.{◌*◌}
-use Rattle.mat_sets.specs.Bits.{bits_of, AreMembersBelow}
+use Rattle.mat_sets.proofs.Common.{◌*◌, bits_of, AreMembersBelow}
 use Rattle.mat_sets.proofs.bit_set.BitSet.members.Given as goal
 
 abbrev pub invariant-loop-at : goal.invariant-loop-at

@@ -1,6 +1,4 @@
-use Rattle.std.proofs.Common.{arith, bit_and, get_or, sym}
-use Rattle.std.proofs.lemmas.List.{get_or_read}
-use Rattle.std.proofs.lemmas.Nat.{and_le_r}
+use Rattle.mat_sets.proofs.Common.{arith, bit_and, get_or, sym, get_or_read, and_le_r}
 use Rattle.mat_sets.proofs.BitScan.{scan_end, scan_found, scan_more, scan_start}
 use Rattle.mat_sets.proofs.bit_set.BitSet.next_among.Goals as goal
 

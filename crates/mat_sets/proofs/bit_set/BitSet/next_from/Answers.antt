@@ -1,5 +1,4 @@
-use Rattle.std.proofs.Common.{Bool, true, false, refl, ◌≡◌, ◌&&◌}
-use Rattle.mat_sets.specs.Sets.{is_member}
+use Rattle.mat_sets.proofs.Common.{Bool, true, false, refl, ◌≡◌, ◌&&◌, is_member}
 use Rattle.mat_sets.proofs.Search.{IsNextFrom-same}
 use Rattle.mat_sets.proofs.bit_set.BitSet.next_from.Goals as goal
 

@@ -1,4 +1,4 @@
-use Rattle.std.proofs.Common.{arith, rules}
+use Rattle.mat_sets.proofs.Common.{arith, rules}
 use Rattle.mat_sets.proofs.Members.{IsRising-with_one}
 use Rattle.mat_sets.proofs.Places.{insert-gap, is_member-gap, is_member-place, with_one-place}
 use Rattle.mat_sets.proofs.elem_set.ElemSet.add.Goals as goal

@@ -1,4 +1,4 @@
-use Rattle.std.proofs.Common.{◌≡◌, arith}
+use Rattle.mat_sets.proofs.Common.{◌≡◌, arith}
 use Rattle.mat_sets.proofs.Ground.{IsSet-all_below}
 use Rattle.mat_sets.proofs.elem_set.ElemSet.all_below.Goals as goal
 

@@ -1,5 +1,4 @@
-use Rattle.std.proofs.Common.{◌≡◌, rules}
-use Rattle.mat_sets.specs.Sets.{intersection}
+use Rattle.mat_sets.proofs.Common.{◌≡◌, rules, intersection}
 use Rattle.mat_sets.proofs.Members.{IsRising-intersection}
 use Rattle.mat_sets.proofs.elem_set.ElemSet.among.Goals as goal
 

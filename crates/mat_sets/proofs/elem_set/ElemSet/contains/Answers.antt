@@ -1,4 +1,4 @@
-use Rattle.std.proofs.Common.{rules}
+use Rattle.mat_sets.proofs.Common.{rules}
 use Rattle.mat_sets.proofs.Places.{is_ok-place}
 use Rattle.mat_sets.proofs.elem_set.ElemSet.contains.Goals as goal
 

@@ -1,5 +1,4 @@
-use Rattle.std.proofs.Common.{sym, ap, ◌∙◌, [], get_or, take_all}
-use Rattle.mat_sets.specs.Sets.{union, with_one}
+use Rattle.mat_sets.proofs.Common.{sym, ap, ◌∙◌, [], get_or, take_all, union, with_one}
 use Rattle.mat_sets.proofs.Members.{IsRising-nil, IsRising-union}
 use Rattle.mat_sets.proofs.Steps.{union-no_items, union-next_item}
 use Rattle.mat_sets.proofs.elem_set.ElemSet.from_members.Goals as goal

@@ -1,5 +1,4 @@
-use Rattle.std.proofs.Common.{◌≡◌, [], take}
-use Rattle.mat_sets.specs.Sets.{union}
+use Rattle.mat_sets.proofs.Common.{◌≡◌, [], take, union}
 use Rattle.mat_sets.proofs.elem_set.ElemSet.from_members.Given as goal
 
 abbrev pub invariant-loop-x : goal.invariant-loop-x

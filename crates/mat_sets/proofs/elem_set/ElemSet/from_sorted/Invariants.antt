@@ -1,5 +1,4 @@
-use Rattle.std.proofs.Common.{◌<◌, ◌-◌, length, take}
-use Rattle.mat_sets.specs.Sets.{IsRising}
+use Rattle.mat_sets.proofs.Common.{◌<◌, ◌-◌, length, take, IsRising}
 use Rattle.mat_sets.proofs.elem_set.ElemSet.from_sorted.Given as goal
 
 abbrev pub invariant-loop-at : goal.invariant-loop-at

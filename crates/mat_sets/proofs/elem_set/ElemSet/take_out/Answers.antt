@@ -1,4 +1,4 @@
-use Rattle.std.proofs.Common.{arith, rules}
+use Rattle.mat_sets.proofs.Common.{arith, rules}
 use Rattle.mat_sets.proofs.Members.{IsRising-without_one}
 use Rattle.mat_sets.proofs.Places.{is_member-gap, is_member-place, remove-place, without_one-gap}
 use Rattle.mat_sets.proofs.elem_set.ElemSet.take_out.Goals as goal

@@ -1,5 +1,4 @@
-use Rattle.std.proofs.Common.{sym, ap, ◌∙◌, get_or}
-use Rattle.mat_sets.specs.Sets.{with_one}
+use Rattle.mat_sets.proofs.Common.{sym, ap, ◌∙◌, get_or, with_one}
 use Rattle.mat_sets.proofs.Steps.{take-with_one}
 use Rattle.mat_sets.proofs.elem_set.ElemSet.to_bits.Goals as goal
 

@@ -1,4 +1,4 @@
-use Rattle.std.proofs.Common.{◌≡◌, take}
+use Rattle.mat_sets.proofs.Common.{◌≡◌, take}
 use Rattle.mat_sets.proofs.elem_set.ElemSet.to_row.Given as goal
 
 abbrev pub invariant-loop-x : goal.invariant-loop-x

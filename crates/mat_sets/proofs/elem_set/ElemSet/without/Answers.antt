@@ -1,5 +1,4 @@
-use Rattle.std.proofs.Common.{◌≡◌, rules}
-use Rattle.mat_sets.specs.Sets.{without_one}
+use Rattle.mat_sets.proofs.Common.{◌≡◌, rules, without_one}
 use Rattle.mat_sets.proofs.Members.{IsRising-without_one}
 use Rattle.mat_sets.proofs.elem_set.ElemSet.without.Goals as goal
 

@@ -1,5 +1,4 @@
-use Rattle.std.proofs.Common.{take}
-use Rattle.mat_sets.specs.Families.{AllRising}
+use Rattle.mat_sets.proofs.Common.{take, AllRising}
 use Rattle.mat_sets.proofs.lists.SetList.new.Given as goal
 
 abbrev pub invariant-loop-set : goal.invariant-loop-set

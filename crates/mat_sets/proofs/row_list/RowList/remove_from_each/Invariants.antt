@@ -1,4 +1,4 @@
-use Rattle.std.proofs.Common.{◌≡◌, length}
+use Rattle.mat_sets.proofs.Common.{◌≡◌, length}
 use Rattle.mat_sets.proofs.Rows.{AreRemovedBelow}
 use Rattle.mat_sets.proofs.row_list.RowList.remove_from_each.Given as goal
 

@@ -1,7 +1,4 @@
-use Rattle.std.proofs.Common.{◌&&◌, ◌∙◌, ap, length}
-use Rattle.mat_sets.specs.Sets.{is_member}
-use Rattle.mat_sets.proofs.Search.{IsNextFrom-same}
-use Rattle.mat_union.specs.Moves.{can_push, exchanges_of}
+use Rattle.mat_union.proofs.Common.{◌&&◌, ◌∙◌, ap, length, is_member, IsNextFrom-same, can_push, exchanges_of}
 use Rattle.mat_union.proofs.move_graph.MoveGraphRelation.next_arc.Goals as goal
 
 pub returns : goal.returns

@@ -1,7 +1,5 @@
-use Rattle.std.proofs.Common.{◌∙◌, ◌+◌, ◌∷◌, ◌++◌, [], refl, ap, subst}
+use Rattle.mat_union.proofs.Common.{◌∙◌, ◌+◌, ◌∷◌, ◌++◌, [], refl, ap, subst, both_ways, AreTaken}
 use Rattle.std.proofs.Math.Numerals.{add-one}
-use Rattle.std.proofs.lemmas.Bool.{both_ways}
-use Rattle.mat_union.specs.MoveSearches.{AreTaken}
 use Rattle.mat_union.proofs.Asking.{search_goes_on}
 use Rattle.mat_union.proofs.move_search.MoveSearch.close.Goals as goal
 

@@ -1,6 +1,4 @@
-use Rattle.std.proofs.Common.{◌≡◌, ◌∙◌, length, get_or, arith}
-use Rattle.std.proofs.lemmas.List.{get_or_default}
-use Rattle.mat_union.specs.MoveSearches.{IsToldTable}
+use Rattle.mat_union.proofs.Common.{◌≡◌, ◌∙◌, length, get_or, arith, get_or_default, IsToldTable}
 use Rattle.mat_union.proofs.FoundMoves.{reach_shows, walk_shows}
 use Rattle.mat_union.proofs.move_search.MoveSearch.moves.Goals as goal
 

@@ -1,8 +1,6 @@
 -- The row tells which members of the part can give way to the element: those that were not reached are reached now, from it.
-use Rattle.std.proofs.Common.{◌≡◌, ◌∙◌, ◌+◌, ◌||◌, suc, refl, sym, ap, arith, length}
+use Rattle.mat_union.proofs.Common.{◌≡◌, ◌∙◌, ◌+◌, ◌||◌, suc, refl, sym, ap, arith, length, both_ways, is_member}
 use Rattle.std.proofs.Math.Numerals.{add-one}
-use Rattle.std.proofs.lemmas.Bool.{both_ways}
-use Rattle.mat_sets.specs.Sets.{is_member}
 use Rattle.mat_union.proofs.Asking.{closed_left, entered_left, told_more, part_left}
 use Rattle.mat_union.proofs.move_search.MoveSearch.tell.Goals as goal
 

@@ -1,6 +1,4 @@
-use Rattle.std.proofs.Common.{◌∙◌, subst, sym}
-use Rattle.mat_sets.specs.Sets.{AllBelow}
-use Rattle.mat_union.specs.UnionOfLaws.{tests_are_matroids}
+use Rattle.mat_union.proofs.Common.{◌∙◌, subst, sym, AllBelow, tests_are_matroids}
 use Rattle.mat_union.proofs.PartsOfSets.{found_tells}
 use Rattle.mat_union.proofs.SoundMatroids.{sound_slice}
 use Rattle.mat_union.proofs.union_of.UnionOfMatroid.independent.Goals as goal

@@ -1,8 +1,4 @@
-use Rattle.std.proofs.Common.{map, subst, sym}
-use Rattle.std.proofs.lemmas.Bool.{both_ways}
-use Rattle.mat_sets.specs.Sets.{AllBelow}
-use Rattle.mat_union.specs.PartListLaws.{union_set}
-use Rattle.mat_union.specs.UnionOfLaws.{tests_are_matroids}
+use Rattle.mat_union.proofs.Common.{map, subst, sym, both_ways, AllBelow, union_set, tests_are_matroids}
 use Rattle.mat_union.proofs.PartsOfSets.{found_none, found_parts}
 use Rattle.mat_union.proofs.SoundMatroids.{sound_slice}
 use Rattle.mat_union.proofs.union_of.UnionOfMatroid.keep.Goals as goal

@@ -1,9 +1,4 @@
-use Rattle.std.proofs.Common.{◌≡◌, ◌<◌, map, subst, sym}
-use Rattle.std.specs.Prelude.{IfOk}
-use Rattle.mat_laws.specs.declared.exchange.Exchange.{Exchange}
-use Rattle.mat_laws.specs.Exchanges.{row_of}
-use Rattle.mat_union.specs.GrownParts.{AreKeptParts}
-use Rattle.mat_union.specs.Unions.{union_test}
+use Rattle.mat_union.proofs.Common.{◌≡◌, ◌<◌, map, subst, sym, IfOk, Exchange, row_of, AreKeptParts, union_test}
 use Rattle.mat_union.proofs.SoundMatroids.{sound_slice}
 use Rattle.mat_union.proofs.union_of.UnionOfMatroid.row.Goals as goal
 

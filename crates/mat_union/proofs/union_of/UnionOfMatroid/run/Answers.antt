@@ -1,8 +1,4 @@
-use Rattle.std.proofs.Common.{◌≡◌, [], map, subst, sym}
-use Rattle.std.specs.Prelude.{IfOk}
-use Rattle.mat_sets.specs.Sets.{AllBelow}
-use Rattle.mat_laws.specs.GreedyRuns.{grown_along}
-use Rattle.mat_union.specs.Unions.{union_test}
+use Rattle.mat_union.proofs.Common.{◌≡◌, [], map, subst, sym, IfOk, AllBelow, grown_along, union_test}
 use Rattle.mat_union.proofs.SoundMatroids.{sound_slice}
 use Rattle.mat_union.proofs.union_of.UnionOfMatroid.run.Goals as goal
 

@@ -1,6 +1,5 @@
-use Rattle.std.proofs.Common.{◌≡◌, true, take}
+use Rattle.mat_witness.proofs.Common.{◌≡◌, true, take, is_member}
 use Rattle.std.specs.List.{list_all}
-use Rattle.mat_sets.specs.Sets.{is_member}
 use Rattle.mat_witness.proofs.parts.counted.are_marked.Given as goal
 
 abbrev pub invariant-loop-x : goal.invariant-loop-x

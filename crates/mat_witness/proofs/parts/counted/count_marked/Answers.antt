@@ -1,6 +1,4 @@
-use Rattle.std.proofs.Common.{◌≡◌, length, take, sym, ap, ◌∙◌, arith}
-use Rattle.mat_sets.specs.Sets.{intersection}
-use Rattle.mat_sets.proofs.Members.{intersection-none}
+use Rattle.mat_witness.proofs.Common.{◌≡◌, length, take, sym, ap, ◌∙◌, arith, intersection, intersection-none}
 use Rattle.mat_witness.proofs.MarkedMembers.{count_small, counted_next, counted_passed}
 use Rattle.mat_witness.proofs.parts.counted.count_marked.Goals as goal
 use Rattle.mat_witness.proofs.parts.counted.count_marked.Goals.{then-contains, else-contains}

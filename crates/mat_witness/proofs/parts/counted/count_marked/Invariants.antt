@@ -1,5 +1,4 @@
-use Rattle.std.proofs.Common.{◌≡◌, length, take}
-use Rattle.mat_sets.specs.Sets.{intersection}
+use Rattle.mat_witness.proofs.Common.{◌≡◌, length, take, intersection}
 use Rattle.mat_witness.proofs.parts.counted.count_marked.Given as goal
 
 abbrev pub invariant-loop-x : goal.invariant-loop-x

@@ -1,7 +1,4 @@
-use Rattle.std.proofs.Common.{ℕ, ◌<◌, [], length, ◌∙◌, subst}
-use Rattle.std.proofs.lemmas.List.Elements.{All-get_or}
-use Rattle.mat_sets.specs.Sets.{IsSet}
-use Rattle.mat_witness.specs.FilledSets.{AreLargestNamed}
+use Rattle.mat_witness.proofs.Common.{ℕ, ◌<◌, [], length, ◌∙◌, subst, All-get_or, IsSet, AreLargestNamed}
 use Rattle.mat_witness.proofs.FilledBounds.{are_spent, filled_number, filled_shows, maximal_inside}
 use Rattle.mat_witness.proofs.NamedSets.{named_by_table, unnamed_by_table}
 use Rattle.mat_witness.proofs.parts.counted.filled_bound.Goals as goal

@@ -1,4 +1,4 @@
-use Rattle.std.proofs.Common.{length, arith}
+use Rattle.mat_witness.proofs.Common.{length, arith}
 use Rattle.mat_witness.proofs.UniformParts.{all_number, all_shows, all_spent, room_shows, room_spent}
 use Rattle.mat_witness.proofs.parts.counted.filled_uniform.Goals as goal
 

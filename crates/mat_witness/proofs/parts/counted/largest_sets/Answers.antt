@@ -1,8 +1,5 @@
 -- A set that the marked elements fill is named for its members; any other set leaves the names as they are.
-use Rattle.std.proofs.Common.{rules, ◌≡◌, ◌+◌, None, length, replicate, ap, ◌∙◌, sym, subst}
-use Rattle.std.proofs.lemmas.List.{length-replicate}
-use Rattle.mat_sets.proofs.Steps.{written_back}
-use Rattle.mat_witness.specs.FilledSets.{AreListed, AreLargestNamed}
+use Rattle.mat_witness.proofs.Common.{rules, ◌≡◌, ◌+◌, None, length, replicate, ap, ◌∙◌, sym, subst, length-replicate, written_back, AreListed, AreLargestNamed}
 use Rattle.mat_witness.proofs.NamedSets.{AreListed-none, AreLargestNamed-none, largest_met, largest_passed}
 use Rattle.mat_witness.proofs.parts.counted.largest_sets.Goals as goal
 use Rattle.mat_witness.proofs.parts.counted.largest_sets.Goals.{then-count_marked-caps, else-count_marked-caps}

@@ -1,5 +1,4 @@
-use Rattle.std.proofs.Common.{◌≡◌, length}
-use Rattle.mat_witness.specs.FilledSets.{AreLargestNamed, AreListed}
+use Rattle.mat_witness.proofs.Common.{◌≡◌, length, AreLargestNamed, AreListed}
 use Rattle.mat_witness.proofs.parts.counted.largest_sets.Given as goal
 
 abbrev pub invariant-loop-place : goal.invariant-loop-place

@@ -1,5 +1,4 @@
-use Rattle.std.proofs.Common.{ap, ◌∙◌}
-use Rattle.mat_sets.specs.Sets.{is_member}
+use Rattle.mat_witness.proofs.Common.{ap, ◌∙◌, is_member}
 use Rattle.mat_witness.proofs.MarkedMembers.{marked_more}
 use Rattle.mat_witness.proofs.parts.counted.mark.Goals as goal
 

@@ -1,5 +1,4 @@
-use Rattle.std.proofs.Common.{◌≡◌, ℕ, ◌||◌, take}
-use Rattle.mat_sets.specs.Sets.{is_member}
+use Rattle.mat_witness.proofs.Common.{◌≡◌, ℕ, ◌||◌, take, is_member}
 use Rattle.mat_witness.proofs.parts.counted.mark.Given as goal
 
 abbrev pub invariant-loop-x : goal.invariant-loop-x

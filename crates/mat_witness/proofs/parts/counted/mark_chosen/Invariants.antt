@@ -1,6 +1,4 @@
-use Rattle.std.proofs.Common.{◌≡◌, ℕ, ◌||◌, take}
-use Rattle.mat_sets.specs.Sets.{is_member}
-use Rattle.mat_witness.specs.BoundParts.{is_in_chosen}
+use Rattle.mat_witness.proofs.Common.{◌≡◌, ℕ, ◌||◌, take, is_member, is_in_chosen}
 use Rattle.mat_witness.proofs.parts.counted.mark_chosen.Given as goal
 
 abbrev pub invariant-loop-i : goal.invariant-loop-i

@@ -1,9 +1,5 @@
 -- For the members so far the larger of the set and of the one named before is named; all other entries are as before.
-use Rattle.std.proofs.Common.{◌<◌, ◌+◌, Some, [], length, get_or, take, refl, sym, ◌∙◌, subst}
-use Rattle.std.proofs.lemmas.List.Elements.{All-set}
-use Rattle.std.specs.Prelude.{IfSome}
-use Rattle.mat_sets.proofs.Sums.{AllBelow-at}
-use Rattle.mat_witness.specs.FilledSets.{AreLargerNamed, AreListed}
+use Rattle.mat_witness.proofs.Common.{◌<◌, ◌+◌, Some, [], length, get_or, take, refl, sym, ◌∙◌, subst, All-set, IfSome, AllBelow-at, AreLargerNamed, AreListed}
 use Rattle.mat_witness.proofs.NamedSets.{larger_found, larger_passed, listed_below}
 use Rattle.mat_witness.proofs.parts.counted.name_larger.Goals as goal
 use Rattle.mat_witness.proofs.parts.counted.name_larger.Goals.{then-outgrows, else-outgrows}

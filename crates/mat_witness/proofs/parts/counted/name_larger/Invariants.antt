@@ -1,5 +1,4 @@
-use Rattle.std.proofs.Common.{◌≡◌, [], length, get_or, take}
-use Rattle.mat_witness.specs.FilledSets.{AreListed, AreLargerNamed}
+use Rattle.mat_witness.proofs.Common.{◌≡◌, [], length, get_or, take, AreListed, AreLargerNamed}
 use Rattle.mat_witness.proofs.parts.counted.name_larger.Given as goal
 
 abbrev pub invariant-loop-x : goal.invariant-loop-x

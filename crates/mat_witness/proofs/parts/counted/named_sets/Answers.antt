@@ -1,6 +1,5 @@
-use Rattle.std.proofs.Common.{◌+◌, ℕ, None, get_or, take, sym, ◌∙◌, subst}
+use Rattle.mat_witness.proofs.Common.{◌+◌, ℕ, None, get_or, take, sym, ◌∙◌, subst, AreNamed}
 use Rattle.mat_flow.proofs.LinkTables.{none_from}
-use Rattle.mat_witness.specs.FilledSets.{AreNamed}
 use Rattle.mat_witness.proofs.NamedSets.{AreNamed-more, AreNamed-some, listed_below}
 use Rattle.mat_witness.proofs.parts.counted.named_sets.Goals as goal
 use Rattle.mat_witness.proofs.parts.counted.named_sets.Goals.{in-Some+in_ok-add, in_default}

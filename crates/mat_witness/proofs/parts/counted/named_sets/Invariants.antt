@@ -1,5 +1,4 @@
-use Rattle.std.proofs.Common.{None, get_or, take}
-use Rattle.mat_witness.specs.FilledSets.{AreNamed}
+use Rattle.mat_witness.proofs.Common.{None, get_or, take, AreNamed}
 use Rattle.mat_witness.proofs.parts.counted.named_sets.Given as goal
 
 abbrev pub invariant-loop-x : goal.invariant-loop-x

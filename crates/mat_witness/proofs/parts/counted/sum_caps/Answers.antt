@@ -1,5 +1,4 @@
-use Rattle.std.proofs.Common.{◌≡◌, ◌+◌, get_or, take, ap, ◌∙◌, arith}
-use Rattle.mat_witness.specs.BoundParts.{caps_sum}
+use Rattle.mat_witness.proofs.Common.{◌≡◌, ◌+◌, get_or, take, ap, ◌∙◌, arith, caps_sum}
 use Rattle.mat_witness.proofs.CapSums.{caps_sum-more, caps_sum-small}
 use Rattle.mat_witness.proofs.NamedSets.{listed_below}
 use Rattle.mat_witness.proofs.parts.counted.sum_caps.Goals as goal

@@ -1,5 +1,4 @@
-use Rattle.std.proofs.Common.{◌≡◌, take}
-use Rattle.mat_witness.specs.BoundParts.{caps_sum}
+use Rattle.mat_witness.proofs.Common.{◌≡◌, take, caps_sum}
 use Rattle.mat_witness.proofs.parts.counted.sum_caps.Given as goal
 
 abbrev pub invariant-loop-i : goal.invariant-loop-i

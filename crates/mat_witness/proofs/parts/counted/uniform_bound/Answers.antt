@@ -1,5 +1,4 @@
-use Rattle.std.proofs.Common.{Some, sym, ap, ◌∙◌}
-use Rattle.std.proofs.lemmas.Bool.{iff_false}
+use Rattle.mat_witness.proofs.Common.{Some, sym, ap, ◌∙◌, iff_false}
 use Rattle.mat_witness.proofs.UniformParts.{bound_by_all, bound_by_elements, bound_by_none}
 use Rattle.mat_witness.proofs.parts.counted.uniform_bound.Goals as goal
 

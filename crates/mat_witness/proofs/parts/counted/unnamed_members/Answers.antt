@@ -1,7 +1,4 @@
-use Rattle.std.proofs.Common.{ℕ, None, get_or, ap, ◌∙◌}
-use Rattle.mat_sets.specs.Sets.{with_one}
-use Rattle.mat_sets.proofs.Filters.{filter-found, filter-passed, IsRising-found}
-use Rattle.mat_witness.specs.FilledSets.{is_unnamed}
+use Rattle.mat_witness.proofs.Common.{ℕ, None, get_or, ap, ◌∙◌, with_one, filter-found, filter-passed, IsRising-found, is_unnamed}
 use Rattle.mat_witness.proofs.NamedSets.{listed_below, unnamed_where_none}
 use Rattle.mat_witness.proofs.parts.counted.unnamed_members.Goals as goal
 use Rattle.mat_witness.proofs.parts.counted.unnamed_members.Goals.{then-is_none+in_ok-add, else-is_none}

@@ -1,6 +1,5 @@
-use Rattle.std.proofs.Common.{◌≡◌, None, get_or, take}
+use Rattle.mat_witness.proofs.Common.{◌≡◌, None, get_or, take, is_unnamed}
 use Rattle.std.specs.List.{filter}
-use Rattle.mat_witness.specs.FilledSets.{is_unnamed}
 use Rattle.mat_witness.proofs.parts.counted.unnamed_members.Given as goal
 
 abbrev pub invariant-loop-x : goal.invariant-loop-x

@@ -1,7 +1,4 @@
-use Rattle.std.proofs.Common.{◌<◌, false, length, get_or, refl, sym, ◌∙◌, arith}
-use Rattle.std.proofs.lemmas.List.{get_or_default}
-use Rattle.std.proofs.lemmas.List.Elements.{All-get_or}
-use Rattle.mat_sets.specs.Graphs.{ends_of}
+use Rattle.mat_witness.proofs.Common.{◌<◌, false, length, get_or, refl, sym, ◌∙◌, arith, get_or_default, All-get_or, ends_of}
 use Rattle.mat_witness.proofs.BroughtVertices.{judged_next}
 use Rattle.mat_witness.proofs.parts.forests.brings_each.Goals as goal
 

@@ -1,5 +1,5 @@
 -- The pairs so far are judged.
-use Rattle.mat_sets.specs.Graphs.{ends_of}
+use Rattle.mat_witness.proofs.Common.{ends_of}
 use Rattle.mat_witness.proofs.BroughtVertices.{IsJudging}
 use Rattle.mat_witness.proofs.parts.forests.brings_each.Given as goal
 

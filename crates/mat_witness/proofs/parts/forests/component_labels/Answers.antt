@@ -1,10 +1,4 @@
-use Rattle.std.proofs.Common.{◌≡◌, ℕ, ◌-◌, ◌≤◌, true, List, length}
-use Rattle.std.proofs.lemmas.Result.{IfOk-weaker}
-use Rattle.mat_sets.specs.Graphs.{ends_of}
-use Rattle.mat_sets.specs.Sets.{AllBelow}
-use Rattle.mat_laws.specs.Matroids.{IsMaximal}
-use Rattle.mat_graphic.specs.Forests.{is_graphic}
-use Rattle.mat_witness.specs.BoundParts.{count_different, have_equal_labels}
+use Rattle.mat_witness.proofs.Common.{◌≡◌, ℕ, ◌-◌, ◌≤◌, true, List, length, IfOk-weaker, ends_of, AllBelow, IsMaximal, is_graphic, count_different, have_equal_labels}
 use Rattle.mat_witness.proofs.ComponentLabels.{AreLeast, least_alike, least_below, least_number, of_both}
 use Rattle.mat_witness.proofs.parts.forests.component_labels.Goals as goal
 

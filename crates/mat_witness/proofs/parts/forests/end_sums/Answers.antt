@@ -1,7 +1,6 @@
 -- Both tables are sums over the edges so far: of ones for the degrees, and of the edges' numbers for the sums. An edge of the set is one of the
 -- graph, and its two ends are different places with room for it.
-use Rattle.std.proofs.Common.{length, ap, arith}
-use Rattle.mat_sets.specs.Graphs.{ends_of}
+use Rattle.mat_witness.proofs.Common.{length, ap, arith, ends_of}
 use Rattle.mat_witness.proofs.SumTables.{fine_before, room_before, table_before, table_none}
 use Rattle.mat_witness.proofs.parts.forests.end_sums.Goals as goal
 

@@ -1,7 +1,5 @@
 -- The edges from place i on are added.
-use Rattle.std.proofs.Common.{drop}
-use Rattle.mat_sets.specs.Graphs.{ends_of}
-use Rattle.mat_witness.specs.EndSums.{IsSumTable}
+use Rattle.mat_witness.proofs.Common.{drop, ends_of, IsSumTable}
 use Rattle.mat_witness.proofs.parts.forests.end_sums.Given as goal
 
 abbrev pub invariant-loop-i : goal.invariant-loop-i

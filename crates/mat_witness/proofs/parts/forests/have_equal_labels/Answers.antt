@@ -1,5 +1,4 @@
-use Rattle.std.proofs.Common.{length, get_or}
-use Rattle.mat_sets.proofs.Sums.{AllBelow-at}
+use Rattle.mat_witness.proofs.Common.{length, get_or, AllBelow-at}
 use Rattle.mat_witness.proofs.parts.forests.have_equal_labels.Goals as goal
 
 pub bounds-edges-e : goal.bounds-edges-e

@@ -1,6 +1,4 @@
-use Rattle.std.proofs.Common.{◌≡◌, ℕ, ◌≤◌, List, [], length, ap, arith}
-use Rattle.mat_sets.specs.Sets.{union}
-use Rattle.mat_sets.proofs.DistinctLists.{length-items}
+use Rattle.mat_witness.proofs.Common.{◌≡◌, ℕ, ◌≤◌, List, [], length, ap, arith, union, length-items}
 use Rattle.mat_witness.proofs.parts.forests.labels_bound.Goals as goal
 
 -- the different labels are at most as many as all

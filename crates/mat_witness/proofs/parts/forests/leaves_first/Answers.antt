@@ -1,7 +1,6 @@
 -- A vertex of degree one has one edge left, whose number is the sum at it; taking this edge keeps degrees and sums those of the
 -- edges left. At the end all edges are taken, leaves first.
-use Rattle.std.proofs.Common.{arith}
-use Rattle.std.proofs.lemmas.Bool.{cond-false, cond-true, eq-eqb, ne_eqb}
+use Rattle.mat_witness.proofs.Common.{arith, cond-false, cond-true, eq-eqb, ne_eqb}
 use Rattle.mat_witness.proofs.LeafPeeling.{at_leaf, enough_at, peeled_long, peeled_shows, peeling_take}
 use Rattle.mat_witness.proofs.parts.forests.leaves_first.Goals as goal
 

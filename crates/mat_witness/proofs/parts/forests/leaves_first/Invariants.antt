@@ -1,5 +1,5 @@
 -- The leaves up to the place that is passed are taken out; each step takes an edge out or passes a vertex.
-use Rattle.std.proofs.Common.{◌+◌, ◌-◌, length}
+use Rattle.mat_witness.proofs.Common.{◌+◌, ◌-◌, length}
 use Rattle.mat_witness.proofs.LeafPeeling.{IsPeeling}
 use Rattle.mat_witness.proofs.parts.forests.leaves_first.Given as goal
 

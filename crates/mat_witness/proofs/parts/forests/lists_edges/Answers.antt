@@ -1,7 +1,5 @@
-use Rattle.std.proofs.Common.{◌≡◌, [], map, length, sym, ap, ◌∙◌, arith}
+use Rattle.mat_witness.proofs.Common.{◌≡◌, [], map, length, sym, ap, ◌∙◌, arith, slice_eq-Decides, union}
 use Rattle.std.proofs.lemmas.Bool.Decides.{Decides-eqb}
-use Rattle.std.proofs.lemmas.Slice.Eq.{slice_eq-Decides}
-use Rattle.mat_sets.specs.Sets.{union}
 use Rattle.mat_witness.proofs.ListedMembers.{as_many}
 use Rattle.mat_witness.proofs.parts.forests.lists_edges.Goals as goal
 

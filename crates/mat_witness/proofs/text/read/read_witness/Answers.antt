@@ -1,6 +1,6 @@
 use Rattle.mat_cert.specs.Views.{certificate_of}
 use Rattle.mat_problem.specs.Views.{instance_of}
-use Rattle.mat_witness.specs.Views.{witness_parts}
+use Rattle.mat_witness.proofs.Common.{witness_parts}
 use Rattle.mat_witness.proofs.WitnessTexts.{gives_fits, gives_found, gives_only}
 use Rattle.mat_witness.proofs.text.read.read_witness.Goals as goal
 

@@ -1,8 +1,4 @@
-use Rattle.std.proofs.Common.{◌∙◌, List, ap}
-use Rattle.mat_words.specs.Cursors.{lines_left}
-use Rattle.mat_any.specs.Trees.{Tree}
-use Rattle.mat_any.specs.Views.{tree_of}
-use Rattle.mat_witness.specs.Reading.{bounds_at}
+use Rattle.mat_witness.proofs.Common.{◌∙◌, List, ap, lines_left, Tree, tree_of, bounds_at}
 use Rattle.mat_witness.proofs.BoundRows.{row_at-bounds}
 use Rattle.mat_witness.proofs.text.read.rung_bounds.Goals as goal
 

@@ -1,5 +1,4 @@
-use Rattle.mat_any.specs.Views.{tree_of}
-use Rattle.mat_witness.specs.Views.{witness_parts}
+use Rattle.mat_witness.proofs.Common.{tree_of, witness_parts}
 use Rattle.mat_witness.proofs.WitnessTexts.{gives_read, rung_inside, rung_taken, taken_ranges}
 use Rattle.mat_witness.proofs.text.read.witness_of.Goals as goal
 

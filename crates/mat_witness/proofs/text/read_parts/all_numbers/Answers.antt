@@ -1,14 +1,6 @@
 -- Each word adds a number behind those so far; a fault of a word is the fault of the whole list.
-use Rattle.std.proofs.Common.{◌∙◌, sym, length}
-use Rattle.std.proofs.lemmas.Result.{err_from_is_err_and}
-use Rattle.mat_words.specs.Cursors.{parts_left, words_left}
-use Rattle.mat_words.specs.Steps.{repeat_at}
+use Rattle.mat_witness.proofs.Common.{◌∙◌, sym, length, err_from_is_err_and, parts_left, words_left, repeat_at, with_front, some_left, none_left, told_again, told_fails, refusal_of, kind_of, below_at}
 use Rattle.mat_words.specs.Reading as any_text
-use Rattle.mat_words.proofs.Repeats.{with_front}
-use Rattle.mat_words.proofs.WordReading.{some_left, none_left}
-use Rattle.mat_words.proofs.ReadingSteps.{told_again, told_fails}
-use Rattle.mat_cert.specs.Faults.{refusal_of, kind_of}
-use Rattle.mat_cert.specs.LineReading.{below_at}
 use Rattle.mat_witness.proofs.WordRows.{all_done, all_fail, all_more, all_shorter}
 use Rattle.mat_witness.proofs.text.read_parts.all_numbers.Goals as goal
 

@@ -1,8 +1,4 @@
-use Rattle.std.proofs.Common.{◌≡◌, length}
-use Rattle.mat_words.specs.Cursors.{parts_left, words_left}
-use Rattle.mat_words.specs.Steps.{repeat_at}
-use Rattle.mat_words.proofs.Repeats.{with_front}
-use Rattle.mat_cert.specs.LineReading.{below_at}
+use Rattle.mat_witness.proofs.Common.{◌≡◌, length, parts_left, words_left, repeat_at, with_front, below_at}
 use Rattle.mat_witness.proofs.text.read_parts.all_numbers.Given as goal
 
 -- the numbers so far and those that are still read are those that are read in all

@@ -1,8 +1,4 @@
-use Rattle.std.proofs.lemmas.Result.{err_from_is_err_and}
-use Rattle.mat_words.specs.Cursors.{lines_left}
-use Rattle.mat_words.specs.Steps.{repeat_at}
-use Rattle.mat_words.proofs.Repeats.{repeat_more, repeat_done, repeat_refused}
-use Rattle.mat_witness.specs.Reading.{binary_line_at}
+use Rattle.mat_witness.proofs.Common.{err_from_is_err_and, lines_left, repeat_at, repeat_more, repeat_done, repeat_refused, binary_line_at}
 use Rattle.mat_witness.proofs.text.read_parts.binary_lines.Goals as goal
 
 pub returns-in_err-number : goal.returns-in_err-number

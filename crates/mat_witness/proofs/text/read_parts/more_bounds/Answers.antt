@@ -1,12 +1,4 @@
-use Rattle.std.proofs.Common.{◌∷◌, [], map}
-use Rattle.std.proofs.lemmas.List.{map-append}
-use Rattle.std.proofs.lemmas.Result.{err_from_is_err_and}
-use Rattle.mat_words.specs.Cursors.{lines_left}
-use Rattle.mat_words.specs.Steps.{repeat_at}
-use Rattle.mat_words.proofs.Repeats.{with_front, repeat_more, repeat_done, repeat_refused}
-use Rattle.mat_any.specs.Views.{tree_of}
-use Rattle.mat_witness.specs.Reading.{bound_at}
-use Rattle.mat_witness.specs.Views.{bound_part}
+use Rattle.mat_witness.proofs.Common.{◌∷◌, [], map, map-append, err_from_is_err_and, lines_left, repeat_at, with_front, repeat_more, repeat_done, repeat_refused, tree_of, bound_at, bound_part}
 use Rattle.mat_witness.proofs.text.read_parts.more_bounds.Goals as goal
 
 pub returns-in_err-bound : goal.returns-in_err-bound

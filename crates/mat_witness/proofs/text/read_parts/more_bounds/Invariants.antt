@@ -1,10 +1,4 @@
-use Rattle.std.proofs.Common.{◌≡◌, ◌-◌, map}
-use Rattle.mat_words.specs.Cursors.{lines_left}
-use Rattle.mat_words.specs.Steps.{repeat_at}
-use Rattle.mat_words.proofs.Repeats.{with_front}
-use Rattle.mat_any.specs.Views.{tree_of}
-use Rattle.mat_witness.specs.Reading.{bound_at}
-use Rattle.mat_witness.specs.Views.{bound_part}
+use Rattle.mat_witness.proofs.Common.{◌≡◌, ◌-◌, map, lines_left, repeat_at, with_front, tree_of, bound_at, bound_part}
 use Rattle.mat_witness.proofs.text.read_parts.more_bounds.Given as goal
 
 -- the bounds so far and those that are still read are those that are read in all

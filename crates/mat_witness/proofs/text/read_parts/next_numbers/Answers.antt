@@ -1,11 +1,5 @@
-use Rattle.std.proofs.lemmas.Result.{err_from_is_err_and}
-use Rattle.mat_words.specs.Cursors.{words_left}
-use Rattle.mat_words.specs.Steps.{repeat_at}
-use Rattle.mat_words.proofs.Repeats.{repeat_more, repeat_done, repeat_refused}
+use Rattle.mat_witness.proofs.Common.{err_from_is_err_and, words_left, repeat_at, repeat_more, repeat_done, repeat_refused, told_again, told_fails, refusal_of, kind_of, below_at}
 use Rattle.mat_words.specs.Reading as any_text
-use Rattle.mat_words.proofs.ReadingSteps.{told_again, told_fails}
-use Rattle.mat_cert.specs.Faults.{refusal_of, kind_of}
-use Rattle.mat_cert.specs.LineReading.{below_at}
 use Rattle.mat_witness.proofs.text.read_parts.next_numbers.Goals as goal
 
 pub returns-in_err-number : goal.returns-in_err-number

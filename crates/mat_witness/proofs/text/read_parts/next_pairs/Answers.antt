@@ -1,8 +1,4 @@
-use Rattle.std.proofs.lemmas.Result.{err_from_is_err_and}
-use Rattle.mat_words.specs.Cursors.{words_left}
-use Rattle.mat_words.specs.Steps.{repeat_at}
-use Rattle.mat_words.proofs.Repeats.{repeat_more, repeat_done, repeat_refused}
-use Rattle.mat_witness.specs.Reading.{pair_at}
+use Rattle.mat_witness.proofs.Common.{err_from_is_err_and, words_left, repeat_at, repeat_more, repeat_done, repeat_refused, pair_at}
 use Rattle.mat_witness.proofs.text.read_parts.next_pairs.Goals as goal
 
 pub returns-in_err-pair : goal.returns-in_err-pair

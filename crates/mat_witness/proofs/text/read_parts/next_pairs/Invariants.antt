@@ -1,8 +1,4 @@
-use Rattle.std.proofs.Common.{◌≡◌, ◌-◌}
-use Rattle.mat_words.specs.Cursors.{words_left}
-use Rattle.mat_words.specs.Steps.{repeat_at}
-use Rattle.mat_words.proofs.Repeats.{with_front}
-use Rattle.mat_witness.specs.Reading.{pair_at}
+use Rattle.mat_witness.proofs.Common.{◌≡◌, ◌-◌, words_left, repeat_at, with_front, pair_at}
 use Rattle.mat_witness.proofs.text.read_parts.next_pairs.Given as goal
 
 -- the pairs so far and those that are still read are those that are read in all

@@ -1,5 +1,4 @@
-use Rattle.std.proofs.Common.{◌∙◌, ap, length}
-use Rattle.mat_any.specs.Views.{tree_of}
+use Rattle.mat_witness.proofs.Common.{◌∙◌, ap, length, tree_of}
 use Rattle.mat_witness.proofs.BoundRows.{length-row_trees}
 use Rattle.mat_witness.proofs.text.write.put_rung_bounds.Goals as goal
 

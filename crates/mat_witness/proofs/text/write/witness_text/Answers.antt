@@ -1,12 +1,4 @@
-use Rattle.std.proofs.Common.{◌≡◌, ◌∷◌, [], codes, map, pos, rules}
-use Rattle.mat_words.specs.Lines.{text_of}
-use Rattle.mat_words.specs.Numbers.{numeral}
-use Rattle.mat_words.specs.Writing.{end_line}
-use Rattle.mat_any.specs.Views.{tree_of}
-use Rattle.mat_cert.proofs.LineTexts.{five_pieces}
-use Rattle.mat_witness.specs.Lines.{bounds_lines, free_lines}
-use Rattle.mat_witness.specs.Shown.{bounded_trees}
-use Rattle.mat_witness.specs.Views.{bound_part, free_part}
+use Rattle.mat_witness.proofs.Common.{◌≡◌, ◌∷◌, [], codes, map, pos, rules, text_of, numeral, end_line, tree_of, five_pieces, bounds_lines, free_lines, bounded_trees, bound_part, free_part}
 use Rattle.mat_witness.proofs.text.write.witness_text.Goals as goal
 
 pub returns : goal.returns

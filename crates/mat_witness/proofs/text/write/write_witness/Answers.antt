@@ -1,6 +1,4 @@
-use Rattle.std.proofs.Common.{length}
-use Rattle.mat_any.specs.Views.{tree_of}
-use Rattle.mat_witness.specs.Views.{bound_part, witness_parts}
+use Rattle.mat_witness.proofs.Common.{length, tree_of, bound_part, witness_parts}
 use Rattle.mat_witness.proofs.PartTexts.{length-viewed}
 use Rattle.mat_witness.proofs.WitnessTexts.{as_written, rung_inside, rung_taken, taken_bounds, taken_ranges}
 use Rattle.mat_witness.proofs.text.write.write_witness.Goals as goal

@@ -1,5 +1,4 @@
-use Rattle.std.proofs.Common.{◌∙◌, rules}
-use Rattle.mat_words.specs.Binary.{binary}
+use Rattle.mat_witness.proofs.Common.{◌∙◌, rules, binary}
 use Rattle.mat_witness.proofs.PartTexts.{word_line_written}
 use Rattle.mat_witness.proofs.text.write_parts.put_binary_line.Goals as goal
 

@@ -1,7 +1,4 @@
-use Rattle.std.proofs.Common.{get_or, arith, rules}
-use Rattle.std.proofs.lemmas.List.{get_or_default}
-use Rattle.mat_cert.proofs.LineTexts.{line_added}
-use Rattle.mat_witness.specs.Lines.{binary_line}
+use Rattle.mat_witness.proofs.Common.{get_or, arith, rules, get_or_default, line_added, binary_line}
 use Rattle.mat_witness.proofs.text.write_parts.put_binary_lines.Goals as goal
 
 pub loop-number-preserved : goal.loop-number-preserved

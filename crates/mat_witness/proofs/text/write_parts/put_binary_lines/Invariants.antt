@@ -1,6 +1,4 @@
-use Rattle.std.proofs.Common.{◌≡◌, ◌++◌, map, take}
-use Rattle.mat_words.specs.Lines.{text_of}
-use Rattle.mat_witness.specs.Lines.{binary_line}
+use Rattle.mat_witness.proofs.Common.{◌≡◌, ◌++◌, map, take, text_of, binary_line}
 use Rattle.mat_witness.proofs.text.write_parts.put_binary_lines.Given as goal
 
 -- the lines of the numbers so far stand there

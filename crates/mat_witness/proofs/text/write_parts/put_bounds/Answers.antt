@@ -1,6 +1,4 @@
-use Rattle.std.proofs.Common.{arith, rules}
-use Rattle.mat_any.specs.Views.{tree_of}
-use Rattle.mat_witness.specs.Views.{bound_part}
+use Rattle.mat_witness.proofs.Common.{arith, rules, tree_of, bound_part}
 use Rattle.mat_witness.proofs.PartTexts.{part_added, parts_added, viewed_lines}
 use Rattle.mat_witness.proofs.text.write_parts.put_bounds.Goals as goal
 

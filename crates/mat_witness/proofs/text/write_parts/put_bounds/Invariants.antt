@@ -1,8 +1,5 @@
-use Rattle.std.proofs.Common.{◌≡◌, ◌++◌, take}
+use Rattle.mat_witness.proofs.Common.{◌≡◌, ◌++◌, take, text_of, tree_of, bound_part}
 use Rattle.std.specs.List.{flat_map}
-use Rattle.mat_words.specs.Lines.{text_of}
-use Rattle.mat_any.specs.Views.{tree_of}
-use Rattle.mat_witness.specs.Views.{bound_part}
 use Rattle.mat_witness.proofs.PartTexts.{viewed_lines}
 use Rattle.mat_witness.proofs.text.write_parts.put_bounds.Given as goal
 

@@ -1,4 +1,4 @@
-use Rattle.std.proofs.Common.{◌++◌, codes, arith, rules}
+use Rattle.mat_witness.proofs.Common.{◌++◌, codes, arith, rules}
 use Rattle.mat_witness.proofs.PartTexts.{pair_written, pairs_written}
 use Rattle.mat_witness.proofs.text.write_parts.put_forest_line.Goals as goal
 

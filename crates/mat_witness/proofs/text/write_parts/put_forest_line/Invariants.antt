@@ -1,4 +1,4 @@
-use Rattle.std.proofs.Common.{◌≡◌, ◌++◌, codes, take}
+use Rattle.mat_witness.proofs.Common.{◌≡◌, ◌++◌, codes, take}
 use Rattle.std.specs.List.{flat_map}
 use Rattle.mat_witness.proofs.PartTexts.{pair_bytes}
 use Rattle.mat_witness.proofs.text.write_parts.put_forest_line.Given as goal

@@ -1,6 +1,4 @@
-use Rattle.std.proofs.Common.{codes, arith, rules}
-use Rattle.mat_words.specs.Writing.{members_line}
-use Rattle.mat_cert.proofs.LineTexts.{line_added}
+use Rattle.mat_witness.proofs.Common.{codes, arith, rules, members_line, line_added}
 use Rattle.mat_witness.proofs.text.write_parts.put_path_lines.Goals as goal
 
 pub loop-path-preserved : goal.loop-path-preserved

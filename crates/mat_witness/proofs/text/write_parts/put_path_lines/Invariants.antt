@@ -1,6 +1,4 @@
-use Rattle.std.proofs.Common.{◌≡◌, ◌++◌, codes, map, take}
-use Rattle.mat_words.specs.Lines.{text_of}
-use Rattle.mat_words.specs.Writing.{members_line}
+use Rattle.mat_witness.proofs.Common.{◌≡◌, ◌++◌, codes, map, take, text_of, members_line}
 use Rattle.mat_witness.proofs.text.write_parts.put_path_lines.Given as goal
 
 -- the lines of the paths so far stand there

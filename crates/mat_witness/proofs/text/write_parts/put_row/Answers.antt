@@ -1,6 +1,4 @@
-use Rattle.std.proofs.lemmas.Result.{on_ok_weaker}
-use Rattle.mat_any.specs.Views.{tree_of}
-use Rattle.mat_witness.specs.Views.{bound_part}
+use Rattle.mat_witness.proofs.Common.{on_ok_weaker, tree_of, bound_part}
 use Rattle.mat_witness.proofs.PartTexts.{rows_written}
 use Rattle.mat_witness.proofs.text.write_parts.put_row.Goals as goal
 

@@ -1,11 +1,4 @@
-use Rattle.std.proofs.Common.{◌≡◌, ℕ, ◌≤◌, List, length, ap, subst, arith}
-use Rattle.mat_sets.specs.Limits.{most_elements}
-use Rattle.mat_sets.proofs.Ground.{IsSet-length}
-use Rattle.mat_any.specs.Trees.{Tree, uniform, partition, laminar}
-use Rattle.mat_any.specs.Trees.{element_count}
-use Rattle.mat_any.specs.Views.{tree_of}
-use Rattle.mat_witness.specs.Parts.{BoundPart, IsBoundFor, spent}
-use Rattle.mat_witness.specs.Views.{bound_part}
+use Rattle.mat_witness.proofs.Common.{◌≡◌, ℕ, ◌≤◌, List, length, ap, subst, arith, most_elements, IsSet-length, Tree, uniform, partition, laminar, element_count, tree_of, BoundPart, IsBoundFor, spent, bound_part}
 use Rattle.mat_witness.proofs.verifier.bounds.bound_shown.Goals as goal
 
 -- no more elements count themselves than there are

@@ -1,9 +1,5 @@
 -- Whether the demands are met is whether those that are left are.
-use Rattle.std.proofs.Common.{◌≡◌, drop, map}
-use Rattle.mat_any.specs.Views.{tree_of}
-use Rattle.mat_witness.specs.Demands.{demand_for}
-use Rattle.mat_witness.specs.Shown.{are_met}
-use Rattle.mat_witness.specs.Views.{bound_part}
+use Rattle.mat_witness.proofs.Common.{◌≡◌, drop, map, tree_of, demand_for, are_met, bound_part}
 use Rattle.mat_witness.proofs.verifier.met.are_met.Given as goal
 
 abbrev pub invariant-loop-i : goal.invariant-loop-i

@@ -1,15 +1,6 @@
 -- Of the two parts one bounds the rank outside the cut, the other that of the cut; where both do, their sum is compared with the number.
-use Rattle.std.proofs.Common.{◌≡◌, ℕ, ◌+◌, ◌<◌, ◌≤◌, Bool, ◌&&◌, if◌then◌else◌, leb, List, [], ◌∷◌, length, get_or, map, Some, None}
-use Rattle.std.proofs.Common.{sym, ap, ◌∙◌, subst, arith}
-use Rattle.std.proofs.lemmas.Option.{cond_some}
-use Rattle.mat_sets.specs.Sets.{all_below, IsSet, minus}
-use Rattle.mat_sets.proofs.Ground.{IsSet-all_below, IsSet-minus}
-use Rattle.mat_any.specs.Trees.{Tree, element_count}
-use Rattle.mat_any.specs.Views.{tree_of}
-use Rattle.mat_witness.specs.BoundParts.{bound_of, shows_bound}
-use Rattle.mat_witness.specs.Shown.{bounds_common_sets}
-use Rattle.mat_witness.specs.Views.{bound_part}
-use Rattle.mat_witness.specs.declared.witness.Most.{Most}
+use Rattle.mat_witness.proofs.Common.{◌≡◌, ℕ, ◌+◌, ◌<◌, ◌≤◌, Bool, ◌&&◌, if◌then◌else◌, leb, List, [], ◌∷◌, length, get_or, map, Some, None, sym, ap, ◌∙◌, subst, arith, cond_some, all_below, IsSet, minus, IsSet-all_below, IsSet-minus, Tree, element_count, tree_of, bound_of, shows_bound}
+use Rattle.mat_witness.proofs.Common.{bounds_common_sets, bound_part, Most}
 use Rattle.mat_witness.proofs.verifier.met.bounds_common_sets.Goals as goal
 
 both_told : (a b : Bool) (x y m n last : ℕ) → Some x ≡ (if a then Some m else None) → Some y ≡ (if b then Some n else None)

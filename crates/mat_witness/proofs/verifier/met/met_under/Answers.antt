@@ -1,8 +1,5 @@
-use Rattle.std.proofs.Common.{sym, subst}
+use Rattle.mat_witness.proofs.Common.{sym, subst, IsSet, element_count, tree_of}
 use Rattle.std.specs.List.{All}
-use Rattle.mat_sets.specs.Sets.{IsSet}
-use Rattle.mat_any.specs.Trees.{element_count}
-use Rattle.mat_any.specs.Views.{tree_of}
 use Rattle.mat_witness.proofs.SplitBounds.{asked_sets}
 use Rattle.mat_witness.proofs.verifier.met.met_under.Goals as goal
 

@@ -1,10 +1,5 @@
-use Rattle.std.proofs.Common.{◌≡◌, ℕ, ◌<◌, Bool, true, not, length, Option, None, Some, sym, ◌∙◌}
-use Rattle.std.specs.Prelude.{is_some, MatchOption}
+use Rattle.mat_witness.proofs.Common.{◌≡◌, ℕ, ◌<◌, Bool, true, not, length, Option, None, Some, sym, ◌∙◌, is_some, MatchOption, not-false, not-true, IsFirstFrom, all_below, adds_up}
 use Rattle.std.specs.List.{list_all}
-use Rattle.std.proofs.lemmas.Bool.{not-false, not-true}
-use Rattle.mat_sets.specs.Search.{IsFirstFrom}
-use Rattle.mat_sets.specs.Sets.{all_below}
-use Rattle.mat_sets.specs.Weights.{adds_up}
 use Rattle.mat_witness.proofs.PassingLists.{fails_below, passes_below}
 use Rattle.mat_witness.proofs.verifier.priced.all_add_up.Goals as goal
 

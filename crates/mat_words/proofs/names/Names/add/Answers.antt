@@ -1,4 +1,4 @@
-use Rattle.std.proofs.Common.{ap, ◌∙◌}
+use Rattle.mat_words.proofs.Common.{ap, ◌∙◌}
 use Rattle.mat_words.specs.Names.{bytes_of}
 use Rattle.mat_words.proofs.NameLemmas.{kept_lawful, kept_with}
 use Rattle.mat_words.proofs.names.Names.add.Goals as goal

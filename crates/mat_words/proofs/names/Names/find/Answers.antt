@@ -1,4 +1,4 @@
-use Rattle.std.proofs.Common.{◌∙◌}
+use Rattle.mat_words.proofs.Common.{◌∙◌}
 use Rattle.mat_words.proofs.NameLemmas.{kept_place}
 use Rattle.mat_words.proofs.names.Names.find.Goals as goal
 

@@ -1,13 +1,4 @@
-use Rattle.std.proofs.Common.{◌<◌, ◌∙◌, [], length, slice_index_or, sym, ap, subst}
-use Rattle.std.proofs.lemmas.List.{get_or-map, length-map}
-use Rattle.std.proofs.lemmas.Option.{slice_get-get_or}
-use Rattle.std.proofs.lemmas.Result.{IfOk-weaker}
-use Rattle.mat_sets.specs.Weights.{weight_at}
-use Rattle.mat_any.specs.Trees.{element_count, is_independent}
-use Rattle.mat_any.specs.Views.{tree_of}
-use Rattle.mat_greedy.specs.Greedy.{AreHeaviestWeights}
-use Rattle.mat_cert.specs.Certificates.{IsRangedPart}
-use Rattle.mat_check.specs.Halves.{halves_of, half_at, AreSumsUnder}
+use Rattle.mat_check.proofs.Common.{◌<◌, ◌∙◌, [], length, slice_index_or, sym, ap, subst, get_or-map, length-map, slice_get-get_or, IfOk-weaker, weight_at, element_count, is_independent, tree_of, AreHeaviestWeights, IsRangedPart, halves_of, half_at, AreSumsUnder}
 use Rattle.mat_check.proofs.RangedHalves.{half_at-read}
 use Rattle.mat_check.proofs.ladder.rung_sums.GreedyRunsRowJob.row.Goals as goal
 

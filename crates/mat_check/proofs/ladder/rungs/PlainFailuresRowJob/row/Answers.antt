@@ -1,9 +1,4 @@
-use Rattle.std.proofs.Common.{length, slice_index_or}
-use Rattle.std.proofs.lemmas.Option.{slice_get-get_or}
-use Rattle.std.proofs.lemmas.Result.{IfOk-weaker}
-use Rattle.mat_any.specs.Trees.{is_independent}
-use Rattle.mat_any.specs.Views.{tree_of}
-use Rattle.mat_check.specs.Clauses.{plain_rung_clauses}
+use Rattle.mat_check.proofs.Common.{length, slice_index_or, slice_get-get_or, IfOk-weaker, is_independent, tree_of, plain_rung_clauses}
 use Rattle.mat_check.proofs.RungFailures.{rung_inside, failure_stands}
 use Rattle.mat_check.proofs.ladder.rungs.PlainFailuresRowJob.row.Goals as goal
 

@@ -1,10 +1,5 @@
 -- The number of the row is that of a rung of the ladder, so the rung is in range, and what is told at its place is whether it is beaten.
-use Rattle.std.proofs.Common.{◌<◌, length, slice_index_or, sym, subst}
-use Rattle.std.proofs.lemmas.Option.{slice_get-get_or}
-use Rattle.std.proofs.lemmas.Result.{IfOk-weaker}
-use Rattle.mat_any.specs.Trees.{is_independent}
-use Rattle.mat_any.specs.Views.{tree_of}
-use Rattle.mat_check.specs.Clauses.{priced_rung_clauses}
+use Rattle.mat_check.proofs.Common.{◌<◌, length, slice_index_or, sym, subst, slice_get-get_or, IfOk-weaker, is_independent, tree_of, priced_rung_clauses}
 use Rattle.mat_check.proofs.RungFailures.{rung_inside, failure_stands}
 use Rattle.mat_check.proofs.ladder.rungs.PricedFailuresRowJob.row.Goals as goal
 

@@ -1,5 +1,4 @@
-use Rattle.std.proofs.Common.{sym, ◌∙◌}
-use Rattle.mat_count.proofs.CrossedSets.{is_crossed-search}
+use Rattle.mat_desc.proofs.Common.{sym, ◌∙◌, is_crossed-search}
 use Rattle.mat_desc.proofs.read.earlier_sets.EarlierSets.crosses.Goals as goal
 
 pub returns : goal.returns

@@ -1,4 +1,4 @@
-use Rattle.std.proofs.Common.{◌+◌, ◌-◌, ap, drop, sym, take, ◌∙◌}
+use Rattle.mat_desc.proofs.Common.{◌+◌, ◌-◌, ap, drop, sym, take, ◌∙◌}
 use Rattle.mat_desc.proofs.MeetingSets.{NoneBefore-more, crosses-one, found_listed, is_crossed-found, is_crossed-none}
 use Rattle.mat_desc.proofs.read.earlier_sets.EarlierSets.crosses_meeting.Goals as goal
 

@@ -1,4 +1,4 @@
-use Rattle.std.proofs.Common.{◌-◌, length}
+use Rattle.mat_desc.proofs.Common.{◌-◌, length}
 use Rattle.mat_desc.proofs.MeetingSets.{NoneBefore}
 use Rattle.mat_desc.proofs.read.earlier_sets.EarlierSets.crosses_meeting.Given as goal
 

@@ -1,7 +1,4 @@
-use Rattle.std.proofs.Common.{◌<◌, ◌||◌, length, get_or, ap, subst, sym, ◌∙◌}
-use Rattle.mat_sets.specs.Rows.{row_at}
-use Rattle.mat_sets.specs.Sets.{is_member}
-use Rattle.mat_sets.proofs.Sums.{AllBelow-at}
+use Rattle.mat_desc.proofs.Common.{◌<◌, ◌||◌, length, get_or, ap, subst, sym, ◌∙◌, row_at, is_member, AllBelow-at}
 use Rattle.mat_desc.proofs.MeetingSets.{AreMeeting-more}
 use Rattle.mat_desc.proofs.read.earlier_sets.EarlierSets.meeting.Goals as goal
 

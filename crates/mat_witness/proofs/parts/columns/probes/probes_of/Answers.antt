@@ -1,10 +1,6 @@
 -- After some columns of the independent set each has a probe that it alone of them meets oddly, and the rows meet all of them evenly. A next column
 -- without a row that it meets oddly would be a sum of those before it.
-use Rattle.std.proofs.Common.{◌≡◌, ℕ, List, ◌^◌, ◌<◌, ◌∙◌, ap, subst, map, length, get_or, arith}
-use Rattle.std.proofs.lemmas.Grind.{common_steps}
-use Rattle.std.proofs.lemmas.List.{get_or_default}
-use Rattle.mat_sets.specs.Sets.{all_below}
-use Rattle.mat_gf2.specs.Columns.{column_of}
+use Rattle.mat_witness.proofs.Common.{◌≡◌, ℕ, List, ◌^◌, ◌<◌, ◌∙◌, ap, subst, map, length, get_or, arith, common_steps, get_or_default, all_below, column_of}
 use Rattle.mat_witness.proofs.ReducedRows.{item-below}
 use Rattle.mat_witness.proofs.TellingRows.{AreProbes, AreProbes-start, AreProbes-read, no_row_even, probes_shown}
 use Rattle.mat_witness.proofs.parts.columns.probes.probes_of.Goals as goal

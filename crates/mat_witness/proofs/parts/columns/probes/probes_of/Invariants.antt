@@ -1,5 +1,5 @@
 -- The probes tell the members so far from one another.
-use Rattle.mat_gf2.specs.Columns.{column_of}
+use Rattle.mat_witness.proofs.Common.{column_of}
 use Rattle.mat_witness.proofs.TellingRows.{AreProbes}
 use Rattle.mat_witness.proofs.parts.columns.probes.probes_of.Given as goal
 

@@ -1,7 +1,5 @@
 -- The numbers so far tell their members; one that does not fails the whole.
-use Rattle.std.proofs.Common.{◌≡◌, true, eqb, length, get_or, sym, ◌∙◌, arith}
-use Rattle.std.proofs.lemmas.Bool.{and_from, and_right, eq-eqb}
-use Rattle.mat_gf2.specs.Columns.{column_of}
+use Rattle.mat_witness.proofs.Common.{◌≡◌, true, eqb, length, get_or, sym, ◌∙◌, arith, and_from, and_right, eq-eqb, column_of}
 use Rattle.mat_witness.proofs.PassingLists.{below_next, fails_below, passes_below}
 use Rattle.mat_witness.proofs.TellingRows.{tells_member, tells_member-read}
 use Rattle.mat_witness.proofs.parts.columns.probes.shows_probes.Goals as goal

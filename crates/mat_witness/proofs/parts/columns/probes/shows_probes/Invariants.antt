@@ -1,9 +1,6 @@
 -- The numbers so far tell their members.
-use Rattle.std.proofs.Common.{◌≡◌, ℕ, ◌<◌, true, not, eqb, cond, length, slice_index_or}
+use Rattle.mat_witness.proofs.Common.{◌≡◌, ℕ, ◌<◌, true, not, eqb, cond, length, slice_index_or, all_below, column_of, inner_product_is_one}
 use Rattle.std.specs.List.{list_all}
-use Rattle.mat_sets.specs.Sets.{all_below}
-use Rattle.mat_gf2.specs.Columns.{column_of}
-use Rattle.mat_gf2.specs.InnerProducts.{inner_product_is_one}
 use Rattle.mat_witness.proofs.parts.columns.probes.shows_probes.Given as goal
 
 abbrev pub invariant-loop-i : goal.invariant-loop-i

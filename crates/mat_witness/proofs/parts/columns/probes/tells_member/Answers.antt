@@ -1,5 +1,4 @@
-use Rattle.std.proofs.Common.{length, sym, ◌∙◌, arith}
-use Rattle.mat_sets.proofs.Sums.{AllBelow-at}
+use Rattle.mat_witness.proofs.Common.{length, sym, ◌∙◌, arith, AllBelow-at}
 use Rattle.mat_witness.proofs.PassingLists.{fails_below, passes_below}
 use Rattle.mat_witness.proofs.parts.columns.probes.tells_member.Goals as goal
 

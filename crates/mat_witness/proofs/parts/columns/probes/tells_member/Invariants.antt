@@ -1,7 +1,5 @@
 -- The number meets the columns of the members so far as it should.
-use Rattle.std.proofs.Common.{◌≡◌, ℕ, ◌<◌, true, not, eqb, cond, slice_index_or}
-use Rattle.mat_gf2.specs.Columns.{column_of}
-use Rattle.mat_gf2.specs.InnerProducts.{inner_product_is_one}
+use Rattle.mat_witness.proofs.Common.{◌≡◌, ℕ, ◌<◌, true, not, eqb, cond, slice_index_or, column_of, inner_product_is_one}
 use Rattle.mat_witness.proofs.parts.columns.probes.tells_member.Given as goal
 
 abbrev pub invariant-loop-j : goal.invariant-loop-j

@@ -1,7 +1,4 @@
-use Rattle.std.proofs.Common.{◌∙◌, ap, get_or, set, arith}
-use Rattle.std.proofs.lemmas.List.{get_or_default}
-use Rattle.std.proofs.lemmas.List.Edits.{map_over_more}
-use Rattle.mat_witness.specs.Rows.{evened}
+use Rattle.mat_witness.proofs.Common.{◌∙◌, ap, get_or, set, arith, get_or_default, map_over_more, evened}
 use Rattle.mat_witness.proofs.parts.columns.rows.make_even.Goals as goal
 
 pub loop-i-preserved : goal.loop-i-preserved

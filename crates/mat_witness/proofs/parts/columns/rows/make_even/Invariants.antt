@@ -1,6 +1,5 @@
 -- The numbers so far are changed.
-use Rattle.std.proofs.Common.{◌≡◌, ◌++◌, map, take, drop}
-use Rattle.mat_witness.specs.Rows.{evened}
+use Rattle.mat_witness.proofs.Common.{◌≡◌, ◌++◌, map, take, drop, evened}
 use Rattle.mat_witness.proofs.parts.columns.rows.make_even.Given as goal
 
 abbrev pub invariant-loop-i : goal.invariant-loop-i

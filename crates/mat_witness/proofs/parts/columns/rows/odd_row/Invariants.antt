@@ -1,6 +1,5 @@
 -- No row so far meets the column oddly.
-use Rattle.std.proofs.Common.{◌≡◌, ℕ, ◌<◌, false, slice_index_or}
-use Rattle.mat_gf2.specs.InnerProducts.{inner_product_is_one}
+use Rattle.mat_witness.proofs.Common.{◌≡◌, ℕ, ◌<◌, false, slice_index_or, inner_product_is_one}
 use Rattle.mat_witness.proofs.parts.columns.rows.odd_row.Given as goal
 
 abbrev pub invariant-loop-i : goal.invariant-loop-i

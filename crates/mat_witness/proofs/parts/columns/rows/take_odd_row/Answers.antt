@@ -1,7 +1,4 @@
-use Rattle.std.proofs.Common.{◌≡◌, ℕ, ◌<◌, ◌∙◌, true, false, length, get_or, sym, subst, arith}
-use Rattle.std.proofs.lemmas.Grind.{common_steps}
-use Rattle.std.proofs.lemmas.List.{get_or_default}
-use Rattle.mat_gf2.specs.InnerProducts.{inner_product_is_one}
+use Rattle.mat_witness.proofs.Common.{◌≡◌, ℕ, ◌<◌, ◌∙◌, true, false, length, get_or, sym, subst, arith, common_steps, get_or_default, inner_product_is_one}
 use Rattle.mat_witness.proofs.parts.columns.rows.take_odd_row.Goals as goal
 
 pub returns-clause-some : goal.returns-clause-some

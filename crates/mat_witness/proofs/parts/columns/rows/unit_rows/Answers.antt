@@ -1,6 +1,4 @@
-use Rattle.std.proofs.Common.{◌*◌, ◌%◌, ◌^◌, ◌∙◌, ◌++◌, ◌∷◌, [], ap, sym, map, arith}
-use Rattle.mat_sets.specs.Sets.{all_below}
-use Rattle.mat_sets.proofs.Ground.{map-all_below_none, map-all_below_more}
+use Rattle.mat_witness.proofs.Common.{◌*◌, ◌%◌, ◌^◌, ◌∙◌, ◌++◌, ◌∷◌, [], ap, sym, map, arith, all_below, map-all_below_none, map-all_below_more}
 use Rattle.mat_witness.proofs.RowSteps.{one_shifted}
 use Rattle.mat_witness.proofs.parts.columns.rows.unit_rows.Goals as goal
 

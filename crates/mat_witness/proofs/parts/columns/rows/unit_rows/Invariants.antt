@@ -1,6 +1,5 @@
 -- There is a row for each place so far.
-use Rattle.std.proofs.Common.{◌≡◌, ◌^◌, map}
-use Rattle.mat_sets.specs.Sets.{all_below}
+use Rattle.mat_witness.proofs.Common.{◌≡◌, ◌^◌, map, all_below}
 use Rattle.mat_witness.proofs.parts.columns.rows.unit_rows.Given as goal
 
 abbrev pub invariant-loop-place : goal.invariant-loop-place

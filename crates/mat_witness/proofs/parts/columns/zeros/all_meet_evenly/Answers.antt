@@ -1,7 +1,5 @@
-use Rattle.std.proofs.Common.{◌≡◌, true, not, get_or, sym, ◌∙◌, arith}
+use Rattle.mat_witness.proofs.Common.{◌≡◌, true, not, get_or, sym, ◌∙◌, arith, column_of, inner_product_is_one}
 use Rattle.std.specs.List.{list_all}
-use Rattle.mat_gf2.specs.Columns.{column_of}
-use Rattle.mat_gf2.specs.InnerProducts.{inner_product_is_one}
 use Rattle.mat_witness.proofs.PassingLists.{below_next, passes_each}
 use Rattle.mat_witness.proofs.parts.columns.zeros.all_meet_evenly.Goals as goal
 

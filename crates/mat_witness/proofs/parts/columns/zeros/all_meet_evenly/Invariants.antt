@@ -1,8 +1,6 @@
 -- The numbers so far meet the columns of all items evenly.
-use Rattle.std.proofs.Common.{◌≡◌, ℕ, ◌<◌, true, not, slice_index_or}
+use Rattle.mat_witness.proofs.Common.{◌≡◌, ℕ, ◌<◌, true, not, slice_index_or, column_of, inner_product_is_one}
 use Rattle.std.specs.List.{list_all}
-use Rattle.mat_gf2.specs.Columns.{column_of}
-use Rattle.mat_gf2.specs.InnerProducts.{inner_product_is_one}
 use Rattle.mat_witness.proofs.parts.columns.zeros.all_meet_evenly.Given as goal
 
 abbrev pub invariant-loop-number : goal.invariant-loop-number

@@ -1,5 +1,4 @@
-use Rattle.std.proofs.Common.{◌≡◌, true, length, sym, arith}
-use Rattle.mat_witness.specs.BoundParts.{has_own_one}
+use Rattle.mat_witness.proofs.Common.{◌≡◌, true, length, sym, arith, has_own_one}
 use Rattle.mat_witness.proofs.OwnOnes.{no_own_one, own_one}
 use Rattle.mat_witness.proofs.PassingLists.{below_next, fails_below, passes_below}
 use Rattle.mat_witness.proofs.parts.columns.zeros.have_own_ones.Goals as goal

@@ -1,7 +1,6 @@
 -- The numbers so far have ones of their own.
-use Rattle.std.proofs.Common.{◌≡◌, ℕ, ◌<◌, ◌^◌, true}
+use Rattle.mat_witness.proofs.Common.{◌≡◌, ℕ, ◌<◌, ◌^◌, true, has_own_one}
 use Rattle.std.specs.List.{All}
-use Rattle.mat_witness.specs.BoundParts.{has_own_one}
 use Rattle.mat_witness.proofs.parts.columns.zeros.have_own_ones.Given as goal
 
 abbrev pub invariant-loop-i : goal.invariant-loop-i

@@ -1,7 +1,4 @@
-use Rattle.std.proofs.Common.{not, length, sym, arith}
-use Rattle.mat_sets.proofs.Sums.{AllBelow-at}
-use Rattle.mat_gf2.specs.Columns.{column_of}
-use Rattle.mat_gf2.specs.InnerProducts.{inner_product_is_one}
+use Rattle.mat_witness.proofs.Common.{not, length, sym, arith, AllBelow-at, column_of, inner_product_is_one}
 use Rattle.mat_witness.proofs.PassingLists.{passes_each}
 use Rattle.mat_witness.proofs.parts.columns.zeros.meets_evenly.Goals as goal
 

@@ -1,5 +1,4 @@
-use Rattle.std.proofs.Common.{sym, subst}
-use Rattle.mat_witness.specs.Rows.{AreOnesOfOthers}
+use Rattle.mat_witness.proofs.Common.{sym, subst, AreOnesOfOthers}
 use Rattle.mat_witness.proofs.OwnOnes.{AreOnesOfOthers-own, AreOnesOfOthers-more}
 use Rattle.mat_witness.proofs.parts.columns.zeros.ones_of_others.Goals as goal
 use Rattle.mat_witness.proofs.parts.columns.zeros.ones_of_others.Goals.{then-j-place, else-j-place}

@@ -1,8 +1,5 @@
 -- The rows meet the columns so far evenly; each column takes away at most one of them.
-use Rattle.std.proofs.Common.{◌≡◌, ℕ, List, ◌^◌, ◌<◌, ◌∙◌, ap, subst, map, length, get_or, arith}
-use Rattle.std.proofs.lemmas.List.{get_or_default}
-use Rattle.mat_sets.specs.Sets.{all_below}
-use Rattle.mat_gf2.specs.Columns.{column_of}
+use Rattle.mat_witness.proofs.Common.{◌≡◌, ℕ, List, ◌^◌, ◌<◌, ◌∙◌, ap, subst, map, length, get_or, arith, get_or_default, all_below, column_of}
 use Rattle.mat_witness.proofs.ReducedRows.{AreReduced, AreReduced-start, AreReduced-read, item-below, reduced_are_zeros}
 use Rattle.mat_witness.proofs.parts.columns.zeros.zeros_of.Goals as goal
 

@@ -1,5 +1,5 @@
 -- The rows meet each column so far evenly.
-use Rattle.mat_gf2.specs.Columns.{column_of}
+use Rattle.mat_witness.proofs.Common.{column_of}
 use Rattle.mat_witness.proofs.ReducedRows.{AreReduced}
 use Rattle.mat_witness.proofs.parts.columns.zeros.zeros_of.Given as goal
 

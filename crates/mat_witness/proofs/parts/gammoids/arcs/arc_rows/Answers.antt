@@ -1,5 +1,4 @@
-use Rattle.std.proofs.Common.{◌+◌, subst, sym, take}
-use Rattle.mat_witness.specs.GammoidSteps.{AreArcRows}
+use Rattle.mat_witness.proofs.Common.{◌+◌, subst, sym, take, AreArcRows}
 use Rattle.mat_witness.proofs.ArcRows.{AreArcRows-more, AreArcRows-none}
 use Rattle.mat_witness.proofs.parts.gammoids.arcs.arc_rows.Goals as goal
 

@@ -1,6 +1,5 @@
 -- The rows are those of the arcs so far.
-use Rattle.std.proofs.Common.{take}
-use Rattle.mat_witness.specs.GammoidSteps.{AreArcRows}
+use Rattle.mat_witness.proofs.Common.{take, AreArcRows}
 use Rattle.mat_witness.proofs.parts.gammoids.arcs.arc_rows.Given as goal
 
 abbrev pub invariant-loop-i : goal.invariant-loop-i

@@ -1,7 +1,6 @@
 -- Each of the items so far is a member of one of the sets.
-use Rattle.std.proofs.Common.{◌≡◌, true, take}
+use Rattle.mat_witness.proofs.Common.{◌≡◌, true, take, is_in_either}
 use Rattle.std.specs.List.{list_all}
-use Rattle.mat_witness.specs.BoundParts.{is_in_either}
 use Rattle.mat_witness.proofs.parts.gammoids.closing.are_in_either.Given as goal
 
 abbrev pub invariant-loop-v : goal.invariant-loop-v

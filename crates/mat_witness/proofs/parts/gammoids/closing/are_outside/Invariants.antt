@@ -1,7 +1,6 @@
 -- None of the items so far is a member.
-use Rattle.std.proofs.Common.{◌≡◌, true, not, take}
+use Rattle.mat_witness.proofs.Common.{◌≡◌, true, not, take, is_member}
 use Rattle.std.specs.List.{list_all}
-use Rattle.mat_sets.specs.Sets.{is_member}
 use Rattle.mat_witness.proofs.parts.gammoids.closing.are_outside.Given as goal
 
 abbrev pub invariant-loop-v : goal.invariant-loop-v

@@ -1,5 +1,4 @@
-use Rattle.std.proofs.Common.{◌≡◌, ◌≤◌, length, ap, ◌∙◌, arith}
-use Rattle.mat_sets.proofs.Ground.{length-distinct_below, AreDistinct-rising}
+use Rattle.mat_witness.proofs.Common.{◌≡◌, ◌≤◌, length, ap, ◌∙◌, arith, length-distinct_below, AreDistinct-rising}
 use Rattle.mat_witness.proofs.parts.gammoids.closing.closing_bound.Goals as goal
 
 -- a set of vertices has at most as many members as there are vertices, whose number is one of 32 bits

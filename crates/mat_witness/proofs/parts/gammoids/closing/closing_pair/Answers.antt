@@ -1,6 +1,4 @@
-use Rattle.std.proofs.Common.{ap, ◌∙◌}
-use Rattle.mat_sets.specs.Sets.{intersection}
-use Rattle.mat_linked.specs.Gammoids.{vertices_of}
+use Rattle.mat_witness.proofs.Common.{ap, ◌∙◌, intersection, vertices_of}
 use Rattle.mat_witness.proofs.OrderedPaths.{ends_inside, is_member-ends}
 use Rattle.mat_witness.proofs.ReachedBeside.{AreClosingSets-reached}
 use Rattle.mat_witness.proofs.parts.gammoids.closing.closing_pair.Goals as goal

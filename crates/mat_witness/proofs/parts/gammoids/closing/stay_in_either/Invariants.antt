@@ -1,5 +1,5 @@
 -- The head of each of the arcs so far whose tail is reached is in one of the sets.
-use Rattle.std.proofs.Common.{◌≡◌, true, take}
+use Rattle.mat_witness.proofs.Common.{◌≡◌, true, take}
 use Rattle.std.specs.List.{list_all}
 use Rattle.mat_witness.proofs.PathParts.{stays_in_either}
 use Rattle.mat_witness.proofs.parts.gammoids.closing.stay_in_either.Given as goal

@@ -1,4 +1,4 @@
-use Rattle.std.proofs.Common.{◌++◌, ap, ◌∙◌}
+use Rattle.mat_witness.proofs.Common.{◌++◌, ap, ◌∙◌}
 use Rattle.mat_witness.proofs.SourcePaths.{concat-more}
 use Rattle.mat_witness.proofs.parts.gammoids.paths.all_vertices.Goals as goal
 

@@ -1,5 +1,5 @@
 -- The vertices of the paths so far are listed.
-use Rattle.std.proofs.Common.{◌≡◌, take}
+use Rattle.mat_witness.proofs.Common.{◌≡◌, take}
 use Rattle.std.specs.List.{concat}
 use Rattle.mat_witness.proofs.parts.gammoids.paths.all_vertices.Given as goal
 

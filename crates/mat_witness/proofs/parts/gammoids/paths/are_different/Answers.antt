@@ -1,10 +1,4 @@
-use Rattle.std.proofs.Common.{◌≡◌, ◌||◌, true, false, eqb, get_or, take, subst, sym, ap, ◌∙◌, arith}
-use Rattle.std.proofs.lemmas.List.{take_all}
-use Rattle.mat_sets.specs.Sets.{is_member, AreDistinct}
-use Rattle.mat_sets.proofs.Members.{is_member-with_one}
-use Rattle.mat_sets.proofs.SetTests.{are_distinct-from}
-use Rattle.mat_sets.proofs.Steps.{is_member-take_more, AreDistinct-more}
-use Rattle.mat_sets.proofs.Truths.{or_commute}
+use Rattle.mat_witness.proofs.Common.{◌≡◌, ◌||◌, true, false, eqb, get_or, take, subst, sym, ap, ◌∙◌, arith, take_all, is_member, AreDistinct, is_member-with_one, are_distinct-from, is_member-take_more, AreDistinct-more, or_commute}
 use Rattle.mat_witness.proofs.SourcePaths.{are_distinct-repeated}
 use Rattle.mat_witness.proofs.parts.gammoids.paths.are_different.Goals as goal
 

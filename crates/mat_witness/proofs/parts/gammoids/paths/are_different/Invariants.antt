@@ -1,6 +1,5 @@
 -- The items so far are different, and they are those that were seen.
-use Rattle.std.proofs.Common.{◌≡◌, ℕ, take}
-use Rattle.mat_sets.specs.Sets.{is_member, AreDistinct}
+use Rattle.mat_witness.proofs.Common.{◌≡◌, ℕ, take, is_member, AreDistinct}
 use Rattle.mat_witness.proofs.parts.gammoids.paths.are_different.Given as goal
 
 abbrev pub invariant-loop-x : goal.invariant-loop-x

@@ -1,5 +1,4 @@
-use Rattle.std.proofs.Common.{sym, ap, ◌∙◌, arith}
-use Rattle.std.proofs.lemmas.List.{take_all}
+use Rattle.mat_witness.proofs.Common.{sym, ap, ◌∙◌, arith, take_all}
 use Rattle.std.specs.List.{list_all}
 use Rattle.mat_witness.proofs.PathParts.{is_source_path}
 use Rattle.mat_witness.proofs.parts.gammoids.paths.are_from_sources.Goals as goal

@@ -1,7 +1,6 @@
 -- Each of the lists so far is a path from a source.
-use Rattle.std.proofs.Common.{◌≡◌, ℕ, List, length, true, take}
+use Rattle.mat_witness.proofs.Common.{◌≡◌, ℕ, List, length, true, take, AreArcRows}
 use Rattle.std.specs.List.{list_all}
-use Rattle.mat_witness.specs.GammoidSteps.{AreArcRows}
 use Rattle.mat_witness.proofs.PathParts.{is_source_path}
 use Rattle.mat_witness.proofs.parts.gammoids.paths.are_from_sources.Given as goal
 

@@ -1,5 +1,4 @@
-use Rattle.std.proofs.Common.{length}
-use Rattle.mat_sets.proofs.Sums.{AllBelow-at}
+use Rattle.mat_witness.proofs.Common.{length, AllBelow-at}
 use Rattle.mat_witness.proofs.parts.gammoids.paths.element_vertices.Goals as goal
 
 pub bounds-targets-e : goal.bounds-targets-e

@@ -1,6 +1,5 @@
 -- The vertices of the elements so far are listed.
-use Rattle.std.proofs.Common.{◌≡◌, take}
-use Rattle.mat_linked.specs.Gammoids.{vertices_of}
+use Rattle.mat_witness.proofs.Common.{◌≡◌, take, vertices_of}
 use Rattle.mat_witness.proofs.parts.gammoids.paths.element_vertices.Given as goal
 
 abbrev pub invariant-loop-e : goal.invariant-loop-e

@@ -1,12 +1,5 @@
 -- The path to each vertex is found by the place of its end, and copied behind those to the vertices before.
-use Rattle.std.proofs.Common.{◌≡◌, ℕ, ◌+◌, ◌<◌, true, List, ◌++◌, ◌∷◌, [], length, map, get_or, take, refl, subst, sym, ap, ◌∙◌, arith}
-use Rattle.std.proofs.lemmas.Grind.{get_or_default_zero}
-use Rattle.std.proofs.lemmas.List.{map-append, take_more}
-use Rattle.mat_sets.specs.Sets.{is_member, AllBelow, AreDistinct}
-use Rattle.mat_sets.proofs.Ground.{AllBelow-member}
-use Rattle.mat_sets.proofs.Members.{is_member-get_or}
-use Rattle.mat_flow.specs.Paths.{last_of}
-use Rattle.mat_witness.specs.GammoidSteps.{path_to}
+use Rattle.mat_witness.proofs.Common.{◌≡◌, ℕ, ◌+◌, ◌<◌, true, List, ◌++◌, ◌∷◌, [], length, map, get_or, take, refl, subst, sym, ap, ◌∙◌, arith, get_or_default_zero, map-append, take_more, is_member, AllBelow, AreDistinct, AllBelow-member, is_member-get_or, last_of, path_to}
 use Rattle.mat_witness.proofs.OrderedPaths.{place_of_path}
 use Rattle.mat_witness.proofs.parts.gammoids.paths.in_order.Goals as goal
 

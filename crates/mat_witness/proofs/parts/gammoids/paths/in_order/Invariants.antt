@@ -1,6 +1,5 @@
 -- The paths to the vertices so far are listed.
-use Rattle.std.proofs.Common.{◌≡◌, map, take}
-use Rattle.mat_witness.specs.GammoidSteps.{path_to}
+use Rattle.mat_witness.proofs.Common.{◌≡◌, map, take, path_to}
 use Rattle.mat_witness.proofs.parts.gammoids.paths.in_order.Given as goal
 
 abbrev pub invariant-loop-v : goal.invariant-loop-v

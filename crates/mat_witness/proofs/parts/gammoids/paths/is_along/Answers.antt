@@ -1,7 +1,4 @@
-use Rattle.std.proofs.Common.{◌≡◌, suc, ◌-◌, length, get_or, sym, ap, ◌∙◌, arith}
-use Rattle.mat_sets.specs.Rows.{row_at}
-use Rattle.mat_sets.specs.Sets.{is_member}
-use Rattle.mat_sets.proofs.Sums.{AllBelow-at}
+use Rattle.mat_witness.proofs.Common.{◌≡◌, suc, ◌-◌, length, get_or, sym, ap, ◌∙◌, arith, row_at, is_member, AllBelow-at}
 use Rattle.mat_witness.proofs.SourcePaths.{is_path-along, is_path-off}
 use Rattle.mat_witness.proofs.parts.gammoids.paths.is_along.Goals as goal
 

@@ -1,4 +1,4 @@
-use Rattle.std.proofs.Common.{◌≡◌, ℕ, ◌<◌, ◌-◌, List, length, get_or, subst, sym, ap, ◌∙◌}
+use Rattle.mat_witness.proofs.Common.{◌≡◌, ℕ, ◌<◌, ◌-◌, List, length, get_or, subst, sym, ap, ◌∙◌}
 use Rattle.mat_witness.proofs.SourcePaths.{last_of-pushed}
 use Rattle.mat_witness.proofs.parts.gammoids.paths.last_vertices.Goals as goal
 

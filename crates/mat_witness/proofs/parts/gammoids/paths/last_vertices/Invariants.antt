@@ -1,6 +1,5 @@
 -- The last vertices of the paths so far are listed.
-use Rattle.std.proofs.Common.{◌≡◌, map, take}
-use Rattle.mat_flow.specs.Paths.{last_of}
+use Rattle.mat_witness.proofs.Common.{◌≡◌, map, take, last_of}
 use Rattle.mat_witness.proofs.parts.gammoids.paths.last_vertices.Given as goal
 
 abbrev pub invariant-loop-path : goal.invariant-loop-path

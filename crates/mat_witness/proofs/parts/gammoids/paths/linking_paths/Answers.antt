@@ -1,6 +1,4 @@
-use Rattle.std.proofs.Common.{ap, ◌∙◌}
-use Rattle.std.proofs.lemmas.Result.{IfOk-weaker}
-use Rattle.mat_linked.specs.Gammoids.{vertices_of}
+use Rattle.mat_witness.proofs.Common.{ap, ◌∙◌, IfOk-weaker, vertices_of}
 use Rattle.mat_witness.proofs.OrderedPaths.{ends_inside, independent_set, linked_to}
 use Rattle.mat_witness.proofs.parts.gammoids.paths.linking_paths.Goals as goal
 

@@ -1,5 +1,4 @@
-use Rattle.std.proofs.Common.{◌<◌, ◌∙◌, length, get_or, length-set, arith}
-use Rattle.mat_sets.proofs.Sums.{AllBelow-at}
+use Rattle.mat_witness.proofs.Common.{◌<◌, ◌∙◌, length, get_or, length-set, arith, AllBelow-at}
 use Rattle.mat_witness.proofs.OrderedPaths.{places_more}
 use Rattle.mat_witness.proofs.parts.gammoids.paths.places_of_ends.Goals as goal
 

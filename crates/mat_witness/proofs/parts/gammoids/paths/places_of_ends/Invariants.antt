@@ -1,5 +1,5 @@
 -- Each of the ends so far has its place.
-use Rattle.std.proofs.Common.{◌≡◌, ℕ, ◌<◌, length, get_or}
+use Rattle.mat_witness.proofs.Common.{◌≡◌, ℕ, ◌<◌, length, get_or}
 use Rattle.mat_witness.proofs.parts.gammoids.paths.places_of_ends.Given as goal
 
 abbrev pub invariant-loop-i : goal.invariant-loop-i

@@ -1,12 +1,7 @@
 -- The clauses come in turn: the lists are paths from sources, they end at the members, and no vertex is in two places.
-use Rattle.std.proofs.Common.{◌≡◌, ℕ, Bool, true, false, List, map, sym, ap, ◌∙◌}
-use Rattle.std.proofs.lemmas.Bool.{not-false, not-true}
-use Rattle.std.proofs.lemmas.Result.{IfOk-weaker}
+use Rattle.mat_witness.proofs.Common.{◌≡◌, ℕ, Bool, true, false, List, map, sym, ap, ◌∙◌, not-false, not-true, IfOk-weaker, are_distinct, last_of, vertices_of}
 use Rattle.std.specs.List.{list_all}
 use Rattle.std.specs.Str.{bytes_eq}
-use Rattle.mat_sets.specs.SetTests.{are_distinct}
-use Rattle.mat_flow.specs.Paths.{last_of}
-use Rattle.mat_linked.specs.Gammoids.{vertices_of}
 use Rattle.mat_witness.proofs.ArcRows.{AreArcRows-read}
 use Rattle.mat_witness.proofs.PathParts.{is_source_path, shows_paths-by_vertices, shows_paths-elsewhere, shows_paths-off}
 use Rattle.mat_witness.proofs.parts.gammoids.paths.shows_paths.Goals as goal
