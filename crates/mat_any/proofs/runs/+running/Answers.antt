@@ -4,7 +4,7 @@
 use Rattle.mat_any.proofs.Common.{◌≡◌, ℕ, ◌+◌, ◌<◌, List, Bool, ◌++◌, [], get_or, length, map, reverse, refl, subst, sym, ap, ◌∙◌, arith, rules, IfOk-weaker, or_right, length-map, family_union, is_member, AllBelow, AreDistinct, IsSubset, minus, all_below, union, AllBelow-filter, AreDistinct-rising}
 use Rattle.mat_any.proofs.Common.{IsSet-minus, IsSet-all_below, grown_along, IsMatroid, run_maximal_of, IsRunning-end, IsJoined-gives, kept_is, is_contracted, is_dual, is_restricted, is_truncated, contracted_laws, restricted_laws, dual_greedy_of, anew_at, anew_end, anew_none, made_end, made_none}
 use Rattle.mat_any.proofs.Common.{made_part, made_same, made_set, part_stays, AreMadeSo, rest_below, taken_are, taken_inside, taken_more, taken_none, anew_same, anew_set, kept_more, part_passes, parts_count, sound_at, test_is, AreKeptAnew, AreKeptSo, AreKept, all_moved, parts_pass, part_at}
-use Rattle.mat_any.proofs.Common.{AreParts, KeepsAny, elements_in, size_in, test_in, union_in, IsSoundOne, KeepsOne, KeepsUnion, the_lemmas, dual, element_count, is_independent, tree_laws, tree_of}
+use Rattle.mat_any.proofs.Common.{AreParts, IsMaximal, KeepsAny, elements_in, size_in, test_in, union_in, IsSoundOne, KeepsOne, KeepsUnion, the_lemmas, dual, element_count, is_independent, tree_laws, tree_of}
 use Rattle.mat_sets.proofs.DistinctLists.{AreDistinct-filter}
 use Rattle.mat_sets.proofs.Sums.{AllBelow-at}
 use Rattle.mat_minors.proofs.DualNext.{kept_of_next}
@@ -249,8 +249,8 @@ pub base_keep-union_base-requires : goal.base_keep-union_base-requires
 base_keep-union_base-requires t c =
     let at = c.in-Union in
     let m = c.args.matroid.now in
-    let ms = c.deref-in-Union.result.now in
-    let same = c.deref-in-Union.ensures.value in (
+    let ms = c.deref.result.now in
+    let same = c.deref.ensures.value in (
       search (rules, the_lemmas),
       (
         joined_at m at.parts ms at.is same c.requires.sound,
@@ -260,13 +260,13 @@ base_keep-union_base-requires t c =
 
 pub base_keep-returns-in-Union-clause-maximal : goal.base_keep-returns-in-Union-clause-maximal
 base_keep-returns-in-Union-clause-maximal t c =
-    let test = test_at_node c.args.matroid.now c.in-Union.parts c.deref-in-Union.result.now c.in-Union.is c.deref-in-Union.ensures.value in
+    let test = test_at_node c.args.matroid.now c.in-Union.parts c.deref.result.now c.in-Union.is c.deref.ensures.value in
     IfOk-weaker c.union_base.result _ _ (λ k told. subst (λ p. IsMaximal p c.args.within.now k.set) (sym test) told) c.union_base.ensures.maximal
 
 pub base_keep-returns-in-Union-clause-kept : goal.base_keep-returns-in-Union-clause-kept
 base_keep-returns-in-Union-clause-kept t c =
     IfOk-weaker c.union_base.result _ _
-    (λ k told. keeps_at c.args.matroid.now c.in-Union.parts c.deref-in-Union.result.now c.in-Union.is c.deref-in-Union.ensures.value k.set k.kept told)
+    (λ k told. keeps_at c.args.matroid.now c.in-Union.parts c.deref.result.now c.in-Union.is c.deref.ensures.value k.set k.kept told)
     c.union_base.ensures.kept
 
 pub run_base-run-requires : goal.run_base-run-requires
@@ -304,7 +304,7 @@ union_base-returns-clause-maximal t c =
 pub union_base-returns-clause-kept : goal.union_base-returns-clause-kept
 union_base-returns-clause-kept t c =
     let same : c.in_ok-set.set ≡ family_union c.in_ok-growth.growth.parts = search rules in
-    c.parts_kept.ensures c.args.matroids.now c.in_ok-set.set c.in_ok-growth.ensures.are (sym same) c.in_ok-growth.ensures.kept
+    c.parts_kept-kept.ensures c.args.matroids.now c.in_ok-set.set c.in_ok-growth.ensures.are (sym same) c.in_ok-growth.ensures.kept
 
 -- greedy parts of a set: each matroid takes what it can of what the ones before it left
 pub greedy_parts-loop-i-init : goal.greedy_parts-loop-i-init
