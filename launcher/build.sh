@@ -5,6 +5,9 @@
 # memory allow, the longest chain first, and keeps each one beside the kit once it is proved.
 # shellcheck shell=sh disable=SC2154
 
+# Where the system tells what control groups allow.
+groups=/sys/fs/cgroup
+
 # The lines of crates.txt for the program and the crates that it stands on.
 lines_of_program() {
     awk -F: '/^[a-z]/ { split($1, word, " "); name[++n] = word[1]; line[n] = $0; uses[word[1]] = $2 }
@@ -72,14 +75,51 @@ copy_sources() {
     done
 }
 
+# Prints how many processors there are: those that the launcher may run on, or fewer by the quota of a control group.
+count_processors() {
+    { cat "$groups/cpu.max"; cat "$groups/cpu/cpu.cfs_quota_us" "$groups/cpu/cpu.cfs_period_us" | tr '\n' ' '; } 2>/dev/null | awk -v count="$(nproc)" '
+        $1 + 0 > 0 && $2 + 0 > 0 { most = int($1 / $2); if (most < 1) most = 1; if (most < count) count = most }
+        END { print count }'
+}
+
+# Prints how many MB of memory are free, also under the limit of a control group.
+free_megabytes() {
+    free=$(entry MemAvailable: /proc/meminfo | tr -dc 0-9)
+    free=$((${free:-0} / 1024))
+    while read -r limit told held; do
+        most=$(cat "$groups/$limit" 2>/dev/null) used=$(entry "$held" "$groups/$told")
+        case $most in '' | *[!0-9]*) continue ;; esac
+        left=$(((most - ${used:-0}) / 1048576))
+        [ "$left" -ge "$free" ] || free=$left
+    done <<END
+memory.max memory.stat anon
+memory/memory.limit_in_bytes memory/memory.stat total_rss
+END
+    echo "$free"
+}
+
+# Prints how many crates the tool is to prove at a time if memory is scarce: one for each processor and each 2,500 MB, which no proof of a crate
+# takes. The tool reckons with two to three times of what they take, and would leave processors idle. With more memory nothing is printed: the
+# tool then fills the processors itself, and gives a crate several jobs if no other can be proved.
+jobs_by_memory() {
+    free=$(free_megabytes) few=$processors
+    [ "$few" -le 4 ] || few=4
+    [ "$free" -lt $((6000 * few)) ] || return 0
+    jobs=$((free / 2500))
+    [ "$jobs" -le "$processors" ] || jobs=$processors
+    [ "$jobs" -ge 1 ] || jobs=1
+    echo "$jobs"
+}
+
 # Starts the tool in a process group of its own, whose number is kept for the guard. The lowest crate, for which nearly all others wait,
 # is proved before the others where it can be kept: alone it gets half of the processors, four at most. The tool does so in a copy of its own,
-# where note_begun does not see it begin, and only where CI does not say that this is the gate; all crates it proves in place.
+# where note_begun does not see it begin, and only where CI does not say that this is the gate; all crates it proves in place. RT_JOBS says how
+# many at a time: the user's, or that of jobs_by_memory.
 start_tool() {
     [ -z "$first" ] || echo "$first 0" >"$room/times"
     # shellcheck disable=SC2016
-    setsid sh -c 'cd "$1/top" && echo "$$" >"$1/leader" && { [ -z "$2" ] || CI= TMPDIR=$1/tmp rt ci "$2" >"$1/log" 2>&1; } && rt ci >>"$1/log" 2>&1
-        echo "$?" >"$1/status"' sh "$room" "$first" </dev/null >/dev/null 2>&1 8>&- 9<&- &
+    setsid sh -c 'cd "$1/top" && echo "$$" >"$1/leader" && { [ -z "$2" ] || CI= TMPDIR=$1/tmp rt ci "$2" >"$1/log" 2>&1; } && RT_JOBS=$3 rt ci >>"$1/log" 2>&1
+        echo "$?" >"$1/status"' sh "$room" "$first" "${RT_JOBS:-$(jobs_by_memory)}" </dev/null >/dev/null 2>&1 8>&- 9<&- &
     tool=$!
 }
 
@@ -91,13 +131,12 @@ note_begun() {
 }
 
 # How far the build is: the numbers of crates that are proved and of all, about how many minutes are left, and the crates under way.
-# What is left counts as twice its seconds by the table of docs/DEVELOPING.md (docs/DECISIONS.md says why), divided among the processors,
+# What is left counts as twice its seconds by launcher/seconds.txt (docs/DECISIONS.md says why), divided among the processors,
 # but as no less than the longest chain of crates. Once more than two minutes have passed, and the part that is done counts for more than
 # two minutes, that is multiplied by the time that has passed and divided by what that part counts for.
 progress() {
-    awk -F'|' -v now="$seconds" -v processors="$processors" '
-        file == 1 && /^## / { is_table = /^## The gate.s time/ }
-        file == 1 && is_table { for (i = 2; i < NF; i++) if ($i ~ /`mat_/) { gsub(/[ `]/, "", $i); cost[$i] = 2 * $(i + 1) } }
+    awk -v now="$seconds" -v processors="$processors" '
+        file == 1 && /^[a-z]/ { cost[$1] = 2 * $2 }
         file == 2 { split($0, side, ":"); split(side[1], word, " "); name[++n] = word[1]; uses[word[1]] = side[2] }
         file == 3 { split($0, word, " "); begun[word[1]] = word[2] }
         file == 4 && /^rt: [a-z0-9_]+ is kept: / { split($0, word, " "); if (!(word[2] in ended)) ended[word[2]] = kept[word[2]] = 1 }
@@ -128,7 +167,7 @@ progress() {
             left = time_of_all()
             if (now > 120 && whole - left > 120) left *= now / (whole - left)
             print proved + 0, n, int(left / 60 + 0.5) under_way
-        }' file=1 "$top/docs/DEVELOPING.md" file=2 "$room/top/crates.txt" file=3 "$room/times" file=4 "$room/log" 2>/dev/null
+        }' file=1 "$top/launcher/seconds.txt" file=2 "$room/top/crates.txt" file=3 "$room/times" file=4 "$room/log" 2>/dev/null
 }
 
 # Tells how far the build is: on a terminal in one line that is written over, elsewhere in a line for each crate that begins or ends.
@@ -243,7 +282,7 @@ put_program() {
 
 # Builds the program.
 build() {
-    began=$(date +%s) processors=$(nproc) told='' first=''
+    began=$(date +%s) processors=$(count_processors) told='' first=''
     make_room
     trap 'break_off 1' HUP
     trap 'break_off 2' INT

@@ -93,6 +93,7 @@ run_quick() {
     run_by python3 "further limits" python3 tests/limits.py 10 1 "$program"
     run_by python3 "random problems" python3 tests/soak.py --problems 40 1 "$program"
     run_python_module
+    run_by python3 "what a change costs" python3 bench/costs.py --check
     run_by mandoc "the man page" mandoc -Tlint -Wwarning docs/matbench.1
 }
 
@@ -125,11 +126,13 @@ run_all() {
     run_by python3 "plans" python3 tests/plans.py 200 1 "$program"
     run_by python3 "further limits" python3 tests/limits.py 100 1 "$program"
     run_by mandoc "the man page" mandoc -Tlint docs/matbench.1
+    run_by python3 "what a change costs" python3 bench/costs.py --check
     run_shellcheck
     run "the launcher" env --default-signal=INT tests/launcher_test.sh
     run_reports
     run_by cc "memory that is refused" python3 tests/refused_memory.py "$program"
     run_by python3 "random problems for a minute" python3 tests/soak.py 60 1 "$program"
+    run_by python3 "what measures proofs" python3 tests/costs_test.py
     run_by rt "wrong bodies that the gate leaves out" tests/planted.sh
     run "the scripts for many machines" sh examples/many/try.sh
     run_over bindings/out/libmatbench.so "bindings/build.sh has not built them" "the bindings" bindings/test.sh "$program"

@@ -26,6 +26,7 @@ kept=$kit/../rattle-kept
 [ "$1" = doc ] && echo "${STAND_IN_DOC:-$kit/START-HERE.md}" && exit
 { [ "$1" = ci ] && [ "$#" -le 2 ]; } || exit 2
 echo "$*" >>"$kit/calls"
+echo "${RT_JOBS:-none}" >>"$kit/jobs"
 if [ "$#" = 2 ]; then
     [ "${CI:-}" != true ] || { echo "rt: rt ci with names is not the gate: run it with none in .ci/run" && exit 2; }
     # (as rt, which leaves its copy where a signal ends it)
@@ -101,8 +102,8 @@ make_release() {
 
 # Makes a checkout of the launcher and seven small crates, nothing of which is built or kept.
 make_checkout() {
-    rm -rf "$work/checkout" "$work/kit/proved" "$work/kit/calls" "$work/tmp" "$work/rattle-kept" "$work"/err* "$work"/out*
-    mkdir -p "$work/checkout/docs" "$work/tmp" "$work/rattle-kept"
+    rm -rf "$work/checkout" "$work/kit/proved" "$work/kit/calls" "$work/kit/jobs" "$work/tmp" "$work/rattle-kept" "$work"/err* "$work"/out*
+    mkdir -p "$work/checkout" "$work/tmp" "$work/rattle-kept"
     ln -sfn tmp "$work/link"
     cp -R "$top/matbench" "$top/prove" "$top/launcher" "$work/checkout/"
     cd "$work/checkout" || exit 1
@@ -114,18 +115,14 @@ make_checkout() {
         echo "// The crate $crate." >"crates/mat_$crate/src/lib.rt"
     done
     printf 'pub(crate) const HELP: &str = "\\\nThe help.\n";\n' >crates/mat_main/src/help.rt
-    cat >docs/DEVELOPING.md <<'END'
-## Wrong bodies
-
-| `mat_sets` | 6000 | 1 | 1 |
-
-## The gate's time
-
-| crate | proof | tests | edits | crate | proof | tests | edits |
-|---|---|---|---|---|---|---|---|
-| `mat_sets` | 126 | | 161 | `mat_work` | 5 | 45 | 74 |
-| `mat_laws` | 10 | | 80 | `mat_words` | 107 | | 174 |
-| `mat_top` | 522 | | 714 | `mat_main` | 71 | 59 | |
+    cat >launcher/seconds.txt <<'END'
+# Seconds.
+mat_sets 126 - 161
+mat_work 5 45 74
+mat_laws 10 - 80
+mat_words 107 - 174
+mat_top 522 - 714
+mat_main 71 59 -
 END
 }
 
@@ -190,7 +187,7 @@ try_first_build() {
     tell "a first build: status and answer" "$status $(cat "$work/out")" "3 $answer"
     tell "its crates, without those that the program does not stand on" "$(proved)" "mat_laws mat_main mat_sets mat_top mat_words mat_work "
     tell "the lowest crate is proved before the others" "$(tr '\n' ' ' <"$work/kit/calls")" "ci mat_sets ci "
-    tell "it says how long that takes, by the longest chain of the table" "$(grep -c 'takes about 28 minutes' "$work/err")" 1
+    tell "it says how long that takes, by the longest chain of crates" "$(grep -c 'takes about 28 minutes' "$work/err")" 1
     tell "no terminal: plain lines, none of them written over" "$(grep -c "^matbench: [0-6] of 6 crates proved; 0 min so far, about" "$work/err" | sed 's/^[1-9][0-9]*$/some/') $(tr -dc '\r\033' <"$work/err" | wc -c)" "some 0"
     tell "left behind" "$(left_behind)" "0 processes, 0 folders"
     run intersect file
@@ -266,6 +263,52 @@ try_failure() {
     echo "// FAILS" >>"$work/checkout/crates/mat_main/src/lib.rt"
     run intersect file
     tell "all is proved, and the program's stored run fails" "$status $(cat "$work/out")$(tail -n 1 "$work/err")" "70 rt: mat_main: the program ended with status 1, and not 0"
+}
+
+# What a function of the launcher prints, with these processors, and in a control group whose files are in a folder: with_launcher PROCESSORS FREE GROUPS FUNCTION
+with_launcher() {
+    # shellcheck disable=SC2016,SC2086
+    $shell -c 'top=$1 && . "$top/launcher/sources.sh" && . "$top/launcher/build.sh" && processors=$2 groups=$4
+        [ -z "$3" ] || eval "free_megabytes() { echo $3; }"
+        nproc() { echo 16; }
+        $5' sh "$top" "$@"
+}
+
+try_jobs() {
+    make_checkout
+    printf 'count_processors() { echo 3; }\nfree_megabytes() { echo 5200; }\n' >>launcher/build.sh
+    run intersect file
+    tell "how many crates at a time: the tool decides for the first alone, and memory for all" "$status $(tr '\n' ' ' <"$work/kit/jobs")" "3 none 2 "
+    echo 'free_megabytes() { echo 18000; }' >>launcher/build.sh
+    echo "// More." >>crates/mat_laws/src/lib.rt
+    rm "$work/kit/jobs"
+    run intersect file
+    tell "with much memory the tool decides" "$status $(tr '\n' ' ' <"$work/kit/jobs")" "3 none none "
+    make_checkout
+    RT_JOBS=7
+    export RT_JOBS
+    run intersect file
+    unset RT_JOBS
+    tell "as many as the user says" "$status $(tr '\n' ' ' <"$work/kit/jobs")" "3 7 7 "
+    tell "by memory: one for each 2,500 MB" "$(with_launcher 4 7499 / jobs_by_memory)" 2
+    tell "one for each processor" "$(with_launcher 4 23999 / jobs_by_memory)" 4
+    tell "one at least" "$(with_launcher 4 100 / jobs_by_memory)" 1
+    tell "with 6,000 MB for each processor the tool decides" "$(with_launcher 4 24000 / jobs_by_memory)$(with_launcher 2 12000 / jobs_by_memory)" ""
+    tell "of more than four processors, for four" "$(with_launcher 16 23999 / jobs_by_memory) $(with_launcher 16 24000 / jobs_by_memory)" "9 "
+    mkdir -p "$work/groups/cpu" "$work/groups/memory"
+    tell "no control group" "$(with_launcher 4 "" "$work/groups" count_processors)" 16
+    printf '300000 100000\n' >"$work/groups/cpu.max"
+    printf '1073741824\n' >"$work/groups/memory.max"
+    printf 'file 5\nanon 104857600\n' >"$work/groups/memory.stat"
+    tell "what a control group allows" "$(with_launcher 4 "" "$work/groups" count_processors) $(with_launcher 4 "" "$work/groups" free_megabytes)" "3 924"
+    printf 'max 100000\n' >"$work/groups/cpu.max"
+    printf 'max\n' >"$work/groups/memory.max"
+    printf '50000\n' >"$work/groups/cpu/cpu.cfs_quota_us"
+    printf '100000\n' >"$work/groups/cpu/cpu.cfs_period_us"
+    printf '2147483648\n' >"$work/groups/memory/memory.limit_in_bytes"
+    printf 'rss 7\ntotal_rss 1048576\n' >"$work/groups/memory/memory.stat"
+    tell "what one of the older form allows" "$(with_launcher 4 "" "$work/groups" count_processors) $(with_launcher 4 "" "$work/groups" free_megabytes)" "1 2047"
+    rm -rf "$work/groups"
 }
 
 # Breaks a build off by a signal once mat_sets is proved, and begins it again.
@@ -564,6 +607,7 @@ try_shell() {
     try_without_tool
     try_lacking
     try_failure
+    try_jobs
     try_broken_off TERM 143
     try_broken_off KILL 137
     try_lost_tool
