@@ -133,7 +133,9 @@ run_all() {
     run_by cc "memory that is refused" python3 tests/refused_memory.py "$program"
     run_by python3 "random problems for a minute" python3 tests/soak.py 60 1 "$program"
     run_by python3 "what measures proofs" python3 tests/costs_test.py
-    run_by rt "wrong bodies that the gate leaves out" tests/planted.sh
+    run_by rt "what hands on proofs" python3 tests/kept_test.py
+    run_by rt "what tries planted bugs" python3 tests/planted_test.py
+    run_by rt "wrong bodies that the gate leaves out" tests/planted.py
     run "the scripts for many machines" sh examples/many/try.sh
     run_over bindings/out/libmatbench.so "bindings/build.sh has not built them" "the bindings" bindings/test.sh "$program"
     run_release

@@ -1,0 +1,205 @@
+#!/usr/bin/env python3
+"""Tries the wrong bodies of tests/planted/: each must be refused by the prover.
+
+    tests/planted.py [--jobs N] [--verdicts FILE] [CRATE | CRATE/EDIT]..
+
+Without names all are tried, N at a time, 1 if N is not given; each takes a processor and up to 2,500
+MB. Of the crate with the edit the functions that it changes are checked alone, over the libraries
+that are kept beside the kit: of the crates below, ./prove or `rt ci` has to have passed. What is
+still proved there, and an edit outside a function, is tried on the whole crate.
+
+Each verdict is written to FILE (tests/planted/out/verdicts) at once, under a checksum of all that it
+rests on: so a run that was cut off goes on where it was, and one after a change tries what the
+change may concern. The last line is `N passed, M failed`: an edit that was not refused, or could not
+be tried, has failed.
+"""
+import concurrent.futures
+import importlib.util
+import os
+import re
+import shutil
+import subprocess
+import sys
+import tempfile
+import threading
+import time
+
+TOP = os.path.dirname(os.path.dirname(os.path.realpath(__file__)))
+PLANTED = f'{TOP}/tests/planted'
+FUNCTION = re.compile(r'^\s*(?:pub(?:\([a-z]+\))? )?(?:const )?(?:unsafe )?fn (\w+)', re.M)
+
+
+def kept_module():
+    """launcher/kept.py, which knows rt."""
+    found = importlib.util.spec_from_file_location('kept', f'{TOP}/launcher/kept.py')
+    made = importlib.util.module_from_spec(found)
+    found.loader.exec_module(made)
+    return made
+
+
+def words_of(arguments):
+    """The number of tries at a time, the file of verdicts, and the names."""
+    jobs, verdicts, names = 1, f'{PLANTED}/out/verdicts', []
+    words = list(arguments)
+    while words:
+        word = words.pop(0)
+        if word == '--jobs' and words and words[0].isdigit() and int(words[0]) > 0:
+            jobs = int(words.pop(0))
+        elif word == '--verdicts' and words:
+            verdicts = words.pop(0)
+        elif word.startswith('-'):
+            print(__doc__, file=sys.stderr)
+            raise SystemExit(64)
+        else:
+            names.append(word.rstrip('/'))
+    return jobs, verdicts, names
+
+
+def edits_named(names):
+    """The edits of these names, as pairs of a crate and a path."""
+    every = [(crate, f'{PLANTED}/{crate}/{edit}') for crate in sorted(os.listdir(PLANTED))
+             if crate != 'out' for edit in sorted(os.listdir(f'{PLANTED}/{crate}'))
+             if edit.endswith('.edit')]
+    label = lambda it: f'{it[0]}/{os.path.basename(it[1])[:-len(".edit")]}'
+    for name in names:
+        if not any(name in (it[0], label(it)) for it in every):
+            print(f'planted.py: no wrong bodies of {name} are in {PLANTED}', file=sys.stderr)
+            raise SystemExit(64)
+    return [it for it in every if not names or it[0] in names or label(it) in names]
+
+
+def copy_crates(room):
+    """Copies what a proof reads."""
+    shutil.copy(f'{TOP}/crates.txt', room)
+    if os.path.exists(f'{TOP}/HANDLES'):
+        shutil.copy(f'{TOP}/HANDLES', room)
+    os.mkdir(f'{room}/.git')
+    for crate in os.listdir(f'{TOP}/crates'):
+        for part in ('src', 'specs', 'proofs', 'c'):
+            if os.path.isdir(f'{TOP}/crates/{crate}/{part}'):
+                shutil.copytree(f'{TOP}/crates/{crate}/{part}', f'{room}/crates/{crate}/{part}')
+
+
+def lay_libraries(rt, room, wanted):
+    """Lays out the libraries below these crates, and gives the crates by their names, with the sum
+    that a verdict on one rests on, None if a library below it is not kept."""
+    rt.Crate.allowed = rt.handles_of(room)
+    crates = rt.crates_of(room)
+    kept = rt.Kept(crates)
+    needed = {it.name for crate in crates if crate.name in wanted for it in crate.below()}
+    found = {}
+    for crate in crates:
+        has_all = all(below.name in kept.rlibs for below in crate.below())
+        found[crate.name] = crate, kept.key(crate) if has_all else None
+        if crate.name in needed and has_all and kept.give(crate, False, kept.key(crate)):
+            kept.is_built(crate)
+    return kept, found
+
+
+def functions_of(edit, folder):
+    """The functions that an edit changes, or None if it changes something else."""
+    file, names = None, []
+    with open(edit, encoding='utf-8') as it:
+        for line in it.read().splitlines():
+            if line.startswith('file: '):
+                file = line[len('file: '):]
+            if line.startswith('old: '):
+                with open(f'{folder}/{file}', encoding='utf-8') as source:
+                    text = source.read()
+                old = line[len('old: '):]
+                before = FUNCTION.findall(text[:text.index(old) + len(old)])
+                if not file.startswith('src/') or not before:
+                    return None
+                names.append(before[-1])
+    return sorted(set(names))
+
+
+def try_functions(rt, crate, edit):
+    """What a check of the functions that an edit changes comes to, None if it says nothing, and
+    what is said of it."""
+    texts, why = rt.read_edit(edit, crate.folder)
+    names = None if why else functions_of(edit, crate.folder)
+    if names is None:
+        return None, why or 'no function is changed'
+    only = [word for name in names for word in ('--only', name)]
+    ran = rt.checked(crate, texts, ['--jobs', '1', *only], None)
+    lines = ran.stdout.rstrip('\n').split('\n')
+    if ran.returncode != 1 or not lines[-1].startswith('only=') or \
+            any(rt.unread(line, texts) for line in lines):
+        return None, lines[-1]
+    told = next((line for line in lines if re.match(r'(note: )?\S+:\d+:\d+:', line)), lines[-1])
+    return rt.REFUSED, f'{", ".join(names)}: {told[:160]}'
+
+
+def try_edit(rt, crate, edit):
+    """What a try of an edit comes to, and what is said of it."""
+    kind, said = try_functions(rt, crate, edit)
+    return (kind, said) if kind else rt.must_fail(crate, edit, ['--jobs', '1'])
+
+
+class Verdicts:
+    """The file of verdicts: lines of a checksum, what the try came to, its seconds, and what was
+    said."""
+
+    def __init__(self, path):
+        self.path, self.known, self.alone = path, {}, threading.Lock()
+        os.makedirs(os.path.dirname(os.path.abspath(path)), exist_ok=True)
+        if os.path.exists(path):
+            with open(path, encoding='utf-8') as it:
+                for line in it:
+                    cells = line.rstrip('\n').split('\t')
+                    if len(cells) == 5 and line.endswith('\n'):
+                        self.known[cells[0]] = cells[1], cells[4]
+
+    def add(self, sum, kind, seconds, label, said):
+        """Writes a verdict behind the others."""
+        cells = [sum, kind, str(seconds), label, ' '.join(said.split())]
+        with self.alone, open(self.path, 'a', encoding='utf-8') as to:
+            to.write('\t'.join(cells) + '\n')
+
+
+def judge(rt, kept, found, verdicts, crate, edit):
+    """Tries an edit unless its verdict is known, tells it, and returns whether it is refused."""
+    label, (it, key) = f'{crate}/{os.path.basename(edit)}', found[crate]
+    if key is None:
+        print(f'NOT TRIED: {label}: a crate below {crate} is not kept: ./prove or rt ci first', flush=True)
+        return False
+    sum = kept.of_edit(edit, key)
+    if sum in verdicts.known:
+        kind, said = verdicts.known[sum]
+        when = 'before'
+    else:
+        begun = time.monotonic()
+        kind, said = try_edit(rt, it, edit)
+        when = f'{time.monotonic() - begun:.0f} s'
+        if kind != rt.UNSURE:
+            verdicts.add(sum, kind, round(time.monotonic() - begun), label, said)
+    is_refused = kind in (rt.REFUSED, rt.AT_LIMIT)
+    print(f'{"refused" if is_refused else "NOT REFUSED"} ({when}): {label}: {said}', flush=True)
+    return is_refused
+
+
+def main():
+    jobs, path, names = words_of(sys.argv[1:])
+    edits = edits_named(names)
+    kept_py = kept_module()
+    try:
+        rt = kept_py.tool()
+    except kept_py.Refused as why:
+        print(f'planted.py: {why}', file=sys.stderr)
+        return 70
+    rt.Crate.cuts_libraries = True
+    with tempfile.TemporaryDirectory(prefix='planted-', dir=os.environ.get('TMPDIR', '/var/tmp')) as room:
+        copy_crates(room)
+        os.chdir(room)
+        rt.rtlib.guarded()
+        kept, found = lay_libraries(rt, room, {crate for crate, _ in edits})
+        verdicts = Verdicts(path)
+        with concurrent.futures.ThreadPoolExecutor(jobs) as pool:
+            results = list(pool.map(lambda it: judge(rt, kept, found, verdicts, *it), edits))
+    print(f'{results.count(True)} passed, {results.count(False)} failed')
+    return 0 if all(results) else 1
+
+
+if __name__ == '__main__':
+    sys.exit(main())
