@@ -94,6 +94,7 @@ run_quick() {
     run_by python3 "random problems" python3 tests/soak.py --problems 40 1 "$program"
     run_python_module
     run_by python3 "what a change costs" python3 bench/costs.py --check
+    run_by python3 "what planted bugs quote" python3 tests/planted.py --read
     run_by mandoc "the man page" mandoc -Tlint -Wwarning docs/matbench.1
 }
 

@@ -2,6 +2,7 @@
 """Tries the wrong bodies of tests/planted/: each must be refused by the prover.
 
     tests/planted.py [--jobs N] [--verdicts FILE] [CRATE | CRATE/EDIT]..
+    tests/planted.py --read     tells alone whether each quotes what its source has once
 
 Without names all are tried, N at a time, 1 if N is not given; each takes a processor and up to 2,500
 MB. Of the crate with the edit the functions that it changes are checked alone, over the libraries
@@ -96,22 +97,39 @@ def lay_libraries(rt, room, wanted):
     return kept, found
 
 
-def functions_of(edit, folder):
-    """The functions that an edit changes, or None if it changes something else."""
-    file, names = None, []
+def quoted(edit, folder):
+    """The names and the texts of the sources that an edit changes, each with what it quotes."""
+    file = None
     with open(edit, encoding='utf-8') as it:
         for line in it.read().splitlines():
             if line.startswith('file: '):
                 file = line[len('file: '):]
             if line.startswith('old: '):
                 with open(f'{folder}/{file}', encoding='utf-8') as source:
-                    text = source.read()
-                old = line[len('old: '):]
-                before = FUNCTION.findall(text[:text.index(old) + len(old)])
-                if not file.startswith('src/') or not before:
-                    return None
-                names.append(before[-1])
+                    yield file, source.read(), line[len('old: '):]
+
+
+def functions_of(edit, folder):
+    """The functions that an edit changes, or None if it changes something else."""
+    names = []
+    for file, text, old in quoted(edit, folder):
+        before = FUNCTION.findall(text[:text.index(old) + len(old)])
+        if not file.startswith('src/') or not before:
+            return None
+        names.append(before[-1])
     return sorted(set(names))
+
+
+def reads_well(crate, edit):
+    """Whether each text that an edit quotes stands once in its source; it is told if not."""
+    try:
+        counts = [text.count(old) for _, text, old in quoted(edit, f'{TOP}/crates/{crate}')]
+    except OSError as why:
+        counts = [why.strerror]
+    if counts and all(count == 1 for count in counts):
+        return True
+    print(f'{crate}/{os.path.basename(edit)}: what it quotes stands there so often: {counts}')
+    return False
 
 
 def try_functions(rt, crate, edit):
@@ -150,6 +168,13 @@ class Verdicts:
                     cells = line.rstrip('\n').split('\t')
                     if len(cells) == 5 and line.endswith('\n'):
                         self.known[cells[0]] = cells[1], cells[4]
+                    elif not line.endswith('\n'):
+                        self.end_line()
+
+    def end_line(self):
+        """Ends the line in which a run was cut off."""
+        with open(self.path, 'a', encoding='utf-8') as to:
+            to.write('\n')
 
     def add(self, sum, kind, seconds, label, said):
         """Writes a verdict behind the others."""
@@ -179,7 +204,15 @@ def judge(rt, kept, found, verdicts, crate, edit):
     return is_refused
 
 
+def ended(results):
+    """Counts what passed, and gives the status."""
+    print(f'{results.count(True)} passed, {results.count(False)} failed')
+    return 0 if all(results) else 1
+
+
 def main():
+    if sys.argv[1:] == ['--read']:
+        return ended([reads_well(crate, edit) for crate, edit in edits_named([])])
     jobs, path, names = words_of(sys.argv[1:])
     edits = edits_named(names)
     kept_py = kept_module()
@@ -197,8 +230,7 @@ def main():
         verdicts = Verdicts(path)
         with concurrent.futures.ThreadPoolExecutor(jobs) as pool:
             results = list(pool.map(lambda it: judge(rt, kept, found, verdicts, *it), edits))
-    print(f'{results.count(True)} passed, {results.count(False)} failed')
-    return 0 if all(results) else 1
+    return ended(results)
 
 
 if __name__ == '__main__':

@@ -17,7 +17,7 @@ echo "$*" | sed 's/.*--crate-name \\([a-z]*\\) .*--jobs 1/\\1/' >>"$(dirname "$0
 last=logic
 case "$*" in *--only*) last=only ;; esac
 if grep -q WRONG src/lib.rt; then
-    echo "src/lib.rt:9:5: error: a goal is open"
+    echo 'src/lib.rt:9:5: error: `second`: a goal is open'
     echo "$last=not-proved"
     exit 1
 fi
@@ -85,14 +85,22 @@ def try_verdicts(place):
     verdicts = f'{place.top}/tests/planted/out/verdicts'
     with open(verdicts, encoding='utf-8') as it:
         text = it.read()
-    written(verdicts, text[:text.rindex('\t')])
-    tell('cut off in a verdict: that one is tried', len(place.planted('--jobs', '2', 'low')[2]) > 0, True)
+    written(verdicts, text[:text.index('\n') + 20])
+    tell('cut off in the second verdict: the first is known', place.planted('--jobs', '2', 'low')[2],
+         ['low', 'low --only first', 'low --only second'])
     tell('it goes on', place.planted('--jobs', '2', 'low')[2], [])
     written(f'{place.top}/crates/low/src/lib.rt', SOURCE.replace('A crate', 'The crate'))
     tell('a change of the crate: all is tried', len(place.planted('--jobs', '3', 'low')[2]), 4)
     tell('another file of verdicts', len(place.planted('--verdicts', f'{place.folder}/new', 'low')[2]), 4)
     tell('a name that is not there', place.planted('low/other')[0], 64)
     tell('a word that is none', place.planted('--other')[0], 64)
+
+
+def try_reading(place):
+    """Edits that are read alone."""
+    status, lines, calls = place.planted('--read')
+    tell('what the edits quote', (status, lines, calls),
+         (1, ['low/of_nothing.edit what it quotes stands there so often', '4 passed, 1 failed'], []))
 
 
 def try_libraries(place):
@@ -115,6 +123,7 @@ def main():
         place = Planted(os.path.realpath(folder))
         try_verdicts(place)
         try_libraries(place)
+        try_reading(place)
     print(f'{results.count(True)} passed, {results.count(False)} failed')
     return 0 if all(results) else 1
 
