@@ -5,6 +5,7 @@ temporary folder is written. The last line is `N passed, M failed`. Needs rt; it
 seconds.
 """
 import os
+import re
 import shutil
 import subprocess
 import sys
@@ -63,8 +64,8 @@ class Planted(Place):
                              capture_output=True, text=True,
                              env={**os.environ, 'TMPDIR': self.folder,
                                   'PATH': f'{self.folder}/a/kit/bin:/usr/bin:/bin'})
-        lines = [' '.join(it for it in line.split(': ')[:2]).replace('(0 s)', '(now)')
-                 for line in (run.stdout + run.stderr).splitlines()]
+        told = re.sub(r'\([0-9]+ s\)', '(now)', run.stdout + run.stderr)
+        lines = [' '.join(line.split(': ')[:2]) for line in told.splitlines()]
         with open(calls, encoding='utf-8') as it:
             return run.returncode, lines, sorted(it.read().splitlines())
 
