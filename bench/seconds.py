@@ -87,8 +87,8 @@ class Watch:
         for prover, (crate, kind) in self.tasks.items():
             seconds[crate][kind] += self.ticks.get(prover, 0) / os.sysconf('SC_CLK_TCK')
         for crate in sorted(seconds):
-            yield ' '.join([crate] + [str(round(seconds[crate][kind])) if seconds[crate][kind] else '-'
-                                      for kind in KINDS])
+            found = [seconds[crate][kind] for kind in KINDS]
+            yield ' '.join([crate] + [str(round(it)) if it else '-' for it in found])
 
 
 def is_there(process):

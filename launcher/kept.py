@@ -17,9 +17,9 @@ what it keeps: over the texts that name the kit, over rt, and over the sizes and
 files that a proof reads. So a copy of a kit has to keep the times of its files, as `cp -a` and tar
 do. A pack of another kit is refused, and so is one that is damaged.
 
-What is laid out belongs to the user who does so, in rattle-kept beside the kit; what is there stays.
-The status is 0 if all went well, 1 if it did not, and 64 for other words. Needs rt and python3, and
-for FILE.zst zstd.
+What is laid out belongs to the user who does so, in rattle-kept beside the kit; what is there
+stays. The status is 0 if all went well, 1 if it did not, and 64 for other words. Needs rt and
+python3, and zstd for FILE.zst.
 """
 import contextlib
 import glob
@@ -170,8 +170,8 @@ def check_kit(rt, head):
     """Refuses a pack of another kit."""
     own, other = identity(rt), head['kit']
     if own['sum'] != other['sum']:
-        raise Refused(f'the pack is of the kit {other["name"]}, sum {other["sum"][:16]}, and this one '
-                      f'is {own["name"]}, sum {own["sum"][:16]}: rt would take nothing of it')
+        raise Refused(f'the pack is of the kit {other["name"]}, sum {other["sum"][:16]}, and this '
+                      f'one is {own["name"]}, sum {own["sum"][:16]}: rt would take nothing of it')
 
 
 def check_entry(room, key):
@@ -199,7 +199,7 @@ class Store:
     def __init__(self, rt):
         self.kept, self.new, self.old = rt.Kept([]), 0, 0
         if not self.kept.at:
-            raise Refused(f'{rt.STORE} cannot be used: it is to be a folder of your own, and no link')
+            raise Refused(f'{rt.STORE} cannot be used: it is to be your own folder, and no link')
 
     def room(self):
         """A folder that rt removes if this ends early."""

@@ -24,15 +24,16 @@ crates = rt.crates_of(top)
 kept = rt.Kept(crates)
 for crate in crates:
     key = kept.key(crate)
+    edits = [f'{crate.folder}/must-fail/{it}' for it in os.listdir(f'{crate.folder}/must-fail')]
     if sys.argv[2] == 'take':
-        print(crate.name, kept.give(crate, False, key), *[kept.tried(kept.of_edit(edit, key)) is not None
-              for edit in sorted(f'{crate.folder}/must-fail/{it}' for it in os.listdir(f'{crate.folder}/must-fail'))])
+        print(crate.name, kept.give(crate, False, key),
+              *[kept.tried(kept.of_edit(it, key)) is not None for it in edits])
     else:
         os.makedirs(f'{crate.folder}/out/rlib/{crate.name}.rlib', exist_ok=True)
         with open(f'{crate.folder}/out/rlib/{crate.name}.rlib/format', 'w') as it:
             it.write('library ' + crate.name)
-        for edit in os.listdir(f'{crate.folder}/must-fail'):
-            kept.keep_tried(kept.of_edit(f'{crate.folder}/must-fail/{edit}', key), rt.REFUSED, 'refused')
+        for edit in edits:
+            kept.keep_tried(kept.of_edit(edit, key), rt.REFUSED, 'refused')
     kept.is_built(crate)
     if sys.argv[2] == 'keep':
         kept.keep(crate, False, key)
@@ -79,7 +80,8 @@ class Place:
         shutil.copy(f'{TOP}/launcher/kept.py', f'{self.top}/launcher/')
         for crate in ('low', 'middle', 'high'):
             self.change(crate, '')
-            written(f'{self.top}/crates/{crate}/must-fail/one.edit', 'file: src/lib.rt\nold: x\nnew: y\n')
+            written(f'{self.top}/crates/{crate}/must-fail/one.edit',
+                    'file: src/lib.rt\nold: x\nnew: y\n')
 
     def change(self, crate, text):
         written(f'{self.top}/crates/{crate}/src/lib.rt', f'//! A crate. {text}\n#![tactic(auto)]\n')
@@ -104,8 +106,9 @@ class Place:
         """What is beside a kit."""
         found = []
         for at, _, files in os.walk(f'{self.folder}/{kit}/rattle-kept'):
-            found += [os.path.relpath(f'{at}/{it}', f'{self.folder}/{kit}/rattle-kept') for it in files]
-        return sorted(it for it in found if not it.startswith('lock-'))
+            inner = os.path.relpath(at, f'{self.folder}/{kit}/rattle-kept')
+            found += [f'{inner}/{it}' for it in files]
+        return sorted(it for it in found if not it.startswith('./lock-'))
 
 
 def try_whole(place, pack):
@@ -125,7 +128,8 @@ def try_whole(place, pack):
          sorted(set(place.names('a')) - (set(older) - set(place.names('b')))))
     tell('without the older one', len(place.names('b')), 9)
     tell('rt takes it', place.by_rt('b', 'take'), 'low True True\nmiddle True True\nhigh True True\n')
-    tell('once more', place.kept('b', 'lay', pack)[1].split(': ')[-1], '0 entries laid out, 6 were there\n')
+    tell('once more', place.kept('b', 'lay', pack)[1].split(': ')[-1],
+         '0 entries laid out, 6 were there\n')
     place.change('middle', 'It is otherwise.')
     tell('what differs is not taken', place.by_rt('b', 'take').splitlines()[:2],
          ['low True True', 'middle False False'])
@@ -137,7 +141,8 @@ def try_whole(place, pack):
 def try_refused(place, pack):
     """Packs that are not laid out."""
     status, told = place.kept('c', 'lay', pack)
-    tell('another kit', (status, 'rt would take nothing of it' in told, place.names('c')), (1, True, []))
+    tell('another kit', (status, 'rt would take nothing of it' in told, place.names('c')),
+         (1, True, []))
     with open(pack, 'rb') as it:
         whole = it.read()
     shutil.rmtree(f'{place.folder}/b/rattle-kept')
@@ -150,7 +155,7 @@ def try_refused(place, pack):
             to.write(text)
         status, told = place.kept('b', 'lay', bad)
         tell(name, (status, said in told), (1, True))
-    tell('rt takes nothing of the crate that was spoilt', 'high True' in place.by_rt('b', 'take'), False)
+    tell('rt takes nothing of what was spoilt', 'high True' in place.by_rt('b', 'take'), False)
     shutil.copy(pack, bad)
     with tarfile.open(bad, 'a') as tar:
         tar.add(pack, 'edits/../../out')
@@ -177,8 +182,8 @@ def main():
         for name in ('.zst', '.gz'):
             if shutil.which(name.replace('.gz', 'gzip').replace('.zst', 'zstd')):
                 status, _ = place.kept('a', 'pack', f'{folder}/pack{name}')
-                tell(f'packed as {name}, laid out', (status, place.kept('b', 'lay', f'{folder}/pack{name}')[1]
-                                                    .split(': ')[-1]),
+                told = place.kept('b', 'lay', f'{folder}/pack{name}')[1]
+                tell(f'packed as {name}, laid out', (status, told.split(': ')[-1]),
                      (0, '0 entries laid out, 6 were there\n'))
         try_refused(place, f'{folder}/pack.tar')
     print(f'{results.count(True)} passed, {results.count(False)} failed')

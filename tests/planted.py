@@ -187,7 +187,8 @@ def judge(rt, kept, found, verdicts, crate, edit):
     """Tries an edit unless its verdict is known, tells it, and returns whether it is refused."""
     label, (it, key) = f'{crate}/{os.path.basename(edit)}', found[crate]
     if key is None:
-        print(f'NOT TRIED: {label}: a crate below {crate} is not kept: ./prove or rt ci first', flush=True)
+        print(f'NOT TRIED: {label}: a crate below {crate} is not kept: ./prove or rt ci first',
+              flush=True)
         return False
     sum = kept.of_edit(edit, key)
     if sum in verdicts.known:
@@ -222,7 +223,8 @@ def main():
         print(f'planted.py: {why}', file=sys.stderr)
         return 70
     rt.Crate.cuts_libraries = True
-    with tempfile.TemporaryDirectory(prefix='planted-', dir=os.environ.get('TMPDIR', '/var/tmp')) as room:
+    base = os.environ.get('TMPDIR', '/var/tmp')
+    with tempfile.TemporaryDirectory(prefix='planted-', dir=base) as room:
         copy_crates(room)
         os.chdir(room)
         rt.rtlib.guarded()

@@ -53,8 +53,12 @@ class Planted(Place):
         for crate in ('low', 'high'):
             written(f'{self.top}/crates/{crate}/src/lib.rt', SOURCE)
         for name, (old, new) in EDITS.items():
-            written(f'{self.top}/tests/planted/low/{name}.edit', f'file: src/lib.rt\nold: {old}\nnew: {new}\n')
-        written(f'{self.top}/tests/planted/high/of_a_function.edit', 'file: src/lib.rt\nold:         x\nnew: WRONG\n')
+            self.plant(f'low/{name}', old, new)
+        self.plant('high/of_a_function', '        x', 'WRONG')
+
+    def plant(self, label, old, new):
+        written(f'{self.top}/tests/planted/{label}.edit',
+                f'file: src/lib.rt\nold: {old}\nnew: {new}\n')
 
     def planted(self, *words):
         """The status of planted.py, its lines without seconds, and what the prover was called for."""
@@ -92,7 +96,8 @@ def try_verdicts(place):
     tell('it goes on', place.planted('--jobs', '2', 'low')[2], [])
     written(f'{place.top}/crates/low/src/lib.rt', SOURCE.replace('A crate', 'The crate'))
     tell('a change of the crate: all is tried', len(place.planted('--jobs', '3', 'low')[2]), 4)
-    tell('another file of verdicts', len(place.planted('--verdicts', f'{place.folder}/new', 'low')[2]), 4)
+    tell('another file of verdicts',
+         len(place.planted('--verdicts', f'{place.folder}/new', 'low')[2]), 4)
     tell('a name that is not there', place.planted('low/other')[0], 64)
     tell('a word that is none', place.planted('--other')[0], 64)
 
