@@ -142,8 +142,8 @@ def try_functions(rt, crate, edit):
     only = [word for name in names for word in ('--only', name)]
     ran = rt.checked(crate, texts, ['--jobs', '1', *only], None)
     lines = ran.stdout.rstrip('\n').split('\n')
-    if ran.returncode != 1 or not lines[-1].startswith('only=') or \
-            any(rt.unread(line, texts) for line in lines):
+    has_ended = any(re.match(r'only=\d+ proved=', line) for line in lines)
+    if ran.returncode != 1 or not has_ended or any(rt.unread(line, texts) for line in lines):
         return None, lines[-1]
     told = next((line for line in lines if re.match(r'(note: )?\S+:\d+:\d+:', line)), lines[-1])
     return rt.REFUSED, f'{", ".join(names)}: {told[:160]}'

@@ -15,14 +15,14 @@ from kept_test import TOP, Place, results, tell, written
 
 PROVER = '''#!/bin/sh
 echo "$*" | sed 's/.*--crate-name \\([a-z]*\\) .*--jobs 1/\\1/' >>"$(dirname "$0")/../calls"
-last=logic
-case "$*" in *--only*) last=only ;; esac
+last=logic=not-proved
+case "$*" in *--only*) last="only=1 proved=0" ;; esac
 if grep -q WRONG src/lib.rt; then
     echo 'src/lib.rt:9:5: error: `second`: a goal is open'
-    echo "$last=not-proved"
+    echo "$last"
     exit 1
 fi
-echo "$last=proved"
+echo "logic=proved"
 '''
 SOURCE = '''//! A crate.
 #![tactic(auto)]
