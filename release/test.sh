@@ -98,6 +98,15 @@ run_quick() {
     run_by mandoc "the man page" mandoc -Tlint -Wwarning docs/matbench.1
 }
 
+# Larger problems with further limits, which HiGHS judges, if scipy is there.
+run_by_highs() {
+    if python3 -c 'import scipy.optimize' 2>/dev/null; then
+        run "further limits, by HiGHS" python3 tests/limits_by_highs.py 60 1 "$program"
+    else
+        cannot "further limits, by HiGHS" "this python3 has no scipy"
+    fi
+}
+
 # Runs shellcheck over each shell script of the repository, if it is here and git knows them.
 run_shellcheck() {
     if has shellcheck && git ls-files --error-unmatch matbench >/dev/null 2>&1; then
@@ -125,7 +134,8 @@ run_all() {
     run_by python3 "tables of spreadsheets" python3 tests/spreadsheets.py 100 1 "$program"
     run_by python3 "trusses" python3 tests/trusses.py 1000 1 "$program"
     run_by python3 "plans" python3 tests/plans.py 200 1 "$program"
-    run_by python3 "further limits" python3 tests/limits.py 100 1 "$program"
+    run_by python3 "further limits" python3 tests/limits.py 150 1 "$program"
+    run_by_highs
     run_by mandoc "the man page" mandoc -Tlint docs/matbench.1
     run_by python3 "what a change costs" python3 bench/costs.py --check
     run_shellcheck

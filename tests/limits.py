@@ -5,10 +5,11 @@ Draws small problems with further limits, of one description or of two that they
 kinds of matroids, with weights A:B or without, for a size or for all; solves each, and compares the
 plan, the bound and what is said to be best with what is found by trying all sets. Then the proof is
 written and verified, and changed in places: a changed one has to be refused, or to show a bound
-that is still right. Where scipy is there, a larger problem for each five small ones is judged by
-HiGHS. What is wrong is printed. The last line is `N passed, M failed`, and the status is 1 if
-something failed. PROBLEMS is 60 and SEED 1 if they are not given; the program is
+that is still right. What is wrong is printed. The last line is `N passed, M failed`, and the status
+is 1 if something failed. PROBLEMS is 150 and SEED 1 if they are not given; the program is
 crates/mat_main/out/mat_main if none is named, and the library is taken where there is one.
+
+limits_by_highs.py draws larger problems, and judges them as this one does.
 """
 import itertools
 import os
@@ -113,6 +114,10 @@ class Problem:
             sum(amounts.get(e, 0) for e in members) <= most
             for most, amounts in self.limits.values())
 
+    def is_plan(self, members):
+        """Whether a set is one of the plans."""
+        return members in list(self.plans())
+
     def plans(self):
         """All plans."""
         start, found = 0, [set()]
@@ -149,7 +154,7 @@ def faults_of(problem, joined, outcome):
         yield f'the bound {outcome.bound} is below {problem.best}'
     if outcome.plan is not None:
         plan = set(outcome.plan)
-        if plan not in list(problem.plans()):
+        if not problem.is_plan(plan):
             yield f'the plan breaks a limit: {outcome.names}'
         if problem.worth(plan) != as_pair(joined, outcome.gain):
             yield f'the plan is worth {problem.worth(plan)}, and not {outcome.gain}'
@@ -200,15 +205,14 @@ def faults_of_proof(limits, problem, joined, further, outcome, numbers, folder):
             yield f'changed in {name}, the proof has a plan of {proved.gain}'
 
 
-def tried(limits, numbers, folder):
-    """What is wrong with a drawn problem, and whether it was closed."""
-    problem = Problem(numbers)
+def tried(limits, problem, numbers, folder, **settings):
+    """Whether what is found of a problem is right, and whether it is best or none by proof."""
     joined = limits.Joined([part.text for part in problem.parts])
     path = os.path.join(folder, 'limits.csv')
     with open(path, 'w', encoding='utf-8') as file:
         file.write(problem.table())
     further = limits.read_limits(path, joined) if problem.limits else []
-    outcome = limits.solve(joined, further, problem.size, SECONDS, use_highs=False)
+    outcome = limits.solve(joined, further, problem.size, SECONDS, **settings)
     proof = os.path.join(folder, 'proof')
     shutil.rmtree(proof, ignore_errors=True)
     faults = [*faults_of(problem, joined, outcome),
@@ -219,50 +223,34 @@ def tried(limits, numbers, folder):
     return not faults, outcome.is_best or outcome.is_none
 
 
-def larger(limits, numbers):
-    """Whether HiGHS finds nothing above the bound of a larger problem; None without scipy."""
-    try:
-        import scipy.optimize  # noqa: F401
-    except ImportError:
-        return None
-    from matbench.limits.integer import plan_by_highs
-    from matbench.limits.plans import Search
-    n, people = 60, 5
-    person, shift = ([numbers.randrange(many) for _ in range(n)] for many in (people, 12))
-    lines = ['matroids 1', f'pair {n}',
-             ' '.join(['weights', *(str(numbers.randint(1, 99)) for _ in range(n))])]
-    for of, many, cap in ((shift, 12, 2), (person, people, 5)):
-        lines += [f'partition {many}'] + [' '.join(['class', str(cap), *(
-            str(e) for e in range(n) if of[e] == each)]) for each in range(many)]
-    joined = limits.Joined(['\n'.join([*lines, 'end', ''])])
-    further = [limits.Limit(f'hours {each}', 26, {e: numbers.choice([4, 6, 8, 10, 12])
-                                                  for e in range(n) if person[e] == each})
-               for each in range(people)]
-    outcome = limits.solve(joined, further, None, SECONDS, parts=60, use_highs=False)
-    exact = plan_by_highs(Search(joined, further), None, 60)
-    return exact is not None and outcome.gain <= joined.gain_of(exact) <= outcome.bound
-
-
-def main():
-    problems, seed = (int(word) for word in (sys.argv[1:3] + ['60', '1'][len(sys.argv[1:3]):]))
-    program = os.path.abspath(sys.argv[3] if len(sys.argv) > 3
+def package(words, problems):
+    """The module matbench.limits, how many problems are to be tried, and the numbers by which they
+    are drawn, for the words behind the name of a script."""
+    problems, seed = (int(word) for word in (words[:2] + [problems, 1][len(words[:2]):]))
+    program = os.path.abspath(words[2] if len(words) > 2
                               else os.path.join(TOP, 'crates/mat_main/out/mat_main'))
     if not os.access(program, os.X_OK):
-        sys.exit(f'limits.py: {program}: there is no such program; '
-                 './matbench --version puts it there')
+        sys.exit(f'{program}: there is no such program; ./matbench --version puts it there')
     sys.path.insert(0, os.path.join(TOP, 'bindings'))
     if not os.path.exists(os.path.join(TOP, 'bindings/out/libmatbench.so')):
         os.environ['MATBENCH_PROGRAM'] = program
     from matbench import limits
-    numbers = random.Random(seed)
+    return limits, problems, random.Random(seed)
+
+
+def end(ended):
+    """Tells what was tried, and ends with the status."""
+    right = sum(is_right for is_right, _ in ended)
+    print(f'{sum(is_closed for _, is_closed in ended)} of {len(ended)} are best or none by proof')
+    print(f'{right} passed, {len(ended) - right} failed')
+    sys.exit(1 if right < len(ended) else 0)
+
+
+def main():
+    limits, problems, numbers = package(sys.argv[1:], 150)
     with tempfile.TemporaryDirectory() as folder:
-        ended = [tried(limits, numbers, folder) for _ in range(problems)]
-    above = [it for it in (larger(limits, numbers) for _ in range(problems // 5)) if it is not None]
-    closed = sum(is_closed for _, is_closed in ended)
-    print(f'{closed} of {problems} are best or none by proof; {len(above)} judged by HiGHS')
-    right = sum(is_right for is_right, _ in ended) + sum(above)
-    print(f'{right} passed, {problems + len(above) - right} failed')
-    sys.exit(1 if right < problems + len(above) else 0)
+        end([tried(limits, Problem(numbers), numbers, folder, use_highs=False)
+             for _ in range(problems)])
 
 
 if __name__ == '__main__':
