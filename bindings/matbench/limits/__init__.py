@@ -15,8 +15,9 @@ plan exceeds.
 from __future__ import annotations
 
 from matbench.faults import InputFault
-from matbench.limits.problem import Joined, Limit, read_limits
+from matbench.limits.problem import Joined, Limit
 from matbench.limits.proofs import Proved, verify, write_proof
+from matbench.limits.reading import read_limits
 from matbench.limits.solving import Outcome, solve
 
 __all__ = ["InputFault", "Joined", "Limit", "Outcome", "Proved", "read_limits", "solve", "verify",

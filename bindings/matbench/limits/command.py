@@ -1,25 +1,24 @@
 """python3 -m matbench limits: a plan that keeps further limits, and a bound that none exceeds."""
 from __future__ import annotations
 
-from fractions import Fraction
+import sys
 from pathlib import Path
-from typing import TYPE_CHECKING, Any
+from typing import TYPE_CHECKING
 
 from matbench.command_lines import DONE, parser_of, write
 from matbench.faults import InputFault
-from matbench.limits.problem import Joined, read_limits
+from matbench.limits.problem import Joined
 from matbench.limits.proofs import verify, write_proof
+from matbench.limits.reading import read_limits
+from matbench.limits.real_names import real_names
+from matbench.limits.showing import outcome_text, proved_text
 from matbench.limits.solving import PARTS, SECONDS, SOLVES, solve
 from matbench.progress import Progress
-from matbench.tables import Table, json_of
+from matbench.tables import FORMS
 
 if TYPE_CHECKING:
     import argparse
     from collections.abc import Sequence
-
-    from matbench.limits.problem import Limit
-    from matbench.limits.proofs import Proved
-    from matbench.limits.solving import Outcome
 
 ABOUT = """\
 Finds a plan for descriptions of form `pair` that keeps further limits too, which add up hours,
@@ -31,7 +30,8 @@ limits, and each has up to 500 elements: so weeks are joined. LIMITS is a table 
   most      how much at most; in one line of each limit at least
   element   an element, or a pattern such as Ada.*night
   amount    what the element counts, from 0; 1 where the cell is empty
-Of all elements of a limit that are chosen the amounts add up to at most `most`. For example:
+Of all elements of a limit that are chosen the amounts add up to at most `most`. A pattern that fits
+none counts nothing, and is told. For example:
   limit,most,element,amount
   nights of Ada,2,Ada.*night,
   hours of Ada,40,Ada.*early,8
@@ -45,6 +45,9 @@ best plan with the charged weights, and the prices of all that the limits allow,
 least the gain of every plan that keeps all limits. --proof writes the charged descriptions and
 their certificates, which `matbench check` judges, and the sum in bound.md; --verify does it all,
 without the search.
+
+Where a description lies in a folder that `roster --proof` wrote, elements have the names of the
+wishes too, as in Jörg.*Nacht, and the answer has the names and the numbers of the roster.
 """
 EXAMPLES = """\
 examples:
@@ -70,92 +73,10 @@ def _parser() -> argparse.ArgumentParser:
                         help="do not let HiGHS look for plans, where scipy is there")
     parser.add_argument("--proof", metavar="FOLDER", help="write the proof of the bound")
     parser.add_argument("--verify", metavar="FOLDER", help="check a proof; nothing is searched")
-    parser.add_argument("--format", choices=["table", "csv", "json"], default="table",
+    parser.add_argument("--format", choices=FORMS, default="table",
                         help="text (the default), CSV with the elements of the plan, or JSON")
     parser.add_argument("--output", metavar="FILE", help="write to FILE")
     return parser
-
-
-def _amount(value: int, limit: Limit) -> int | float:
-    """An amount in the unit of the table."""
-    found = Fraction(value, limit.scale)
-    return int(found) if found.denominator == 1 else float(found)
-
-
-def limits_table(outcome: Outcome) -> Table:
-    """A line for each further limit: what the plan uses of it, and of how much."""
-    rows = [[it.name, _amount(it.used(outcome.plan or ()), it), _amount(it.most, it),
-             it.used(outcome.plan or ()) == it.most] for it in outcome.limits if not it.source]
-    return Table(["limit", "used", "most", "full"], rows)
-
-
-def _elements(size: int | None) -> str:
-    return "" if size is None else f" of {size} elements"
-
-
-def _sentences(outcome: Outcome) -> list[str]:
-    """What is known of the best plan, in words that promise no more."""
-    joined, of = outcome.joined, _elements(outcome.size)
-    if outcome.is_none:
-        return [f"none: no plan{of} keeps all limits."]
-    bound = joined.spelled(outcome.bound or 0)
-    if outcome.plan is None or outcome.gain is None:
-        return [f"no plan{of} was found that keeps all limits. If there is one, it gains at most"
-                f" {bound}."]
-    plan = f"plan: {len(outcome.plan)} elements, gain {joined.spelled(outcome.gain)}"
-    if outcome.is_best:
-        return [plan, f"best: no plan{of} that keeps all limits gains more."]
-    return [plan, f"bound: no plan{of} that keeps all limits gains more than {bound}. The gap is"
-                  f" {outcome.gap}: a better plan may exist, or not."]
-
-
-def _words(outcome: Outcome) -> str:
-    """The outcome as text."""
-    lines = _sentences(outcome)
-    if outcome.plan is not None:
-        lines += ["", *(f"  {name}" for name in outcome.names)]
-        table = limits_table(outcome).text() if len(outcome.limits) else ""
-        return "\n".join(lines) + "\n\n" + table
-    return "\n".join(lines) + "\n"
-
-
-def _record(outcome: Outcome) -> dict[str, Any]:
-    """The outcome for JSON. Weights A:B are texts."""
-    def shown(gain: int | None) -> Any:
-        if gain is None:
-            return None
-        found = outcome.joined.spelled(gain)
-        return found if isinstance(found, int) else str(found)
-    gap = outcome.gap
-    return {"plan": None if outcome.plan is None else outcome.names, "gain": shown(outcome.gain),
-            "bound": shown(outcome.bound), "best": outcome.is_best, "none": outcome.is_none,
-            "gap": gap if gap is None or isinstance(gap, int) else str(gap), "size": outcome.size,
-            "limits": limits_table(outcome).records(), "solves": outcome.solves,
-            "seconds": round(outcome.seconds, 1)}
-
-
-def _text(outcome: Outcome, form: str) -> str:
-    """The outcome in a form."""
-    if form == "json":
-        return json_of(_record(outcome))
-    if form == "csv":
-        return Table(["element"], [[it] for it in outcome.names]).csv()
-    return _words(outcome)
-
-
-def proved_text(proved: Proved, joined: Joined) -> str:
-    """What a proof shows, in words."""
-    of = _elements(proved.size)
-    lines = [f"right: no plan{of} keeps all limits." if proved.bound is None else
-             f"right: no plan{of} that keeps all limits gains more than"
-             f" {joined.spelled(proved.bound)}."]
-    if proved.gain is None:
-        lines.append("The folder has no plan that keeps all limits.")
-    else:
-        best = ", and so is best" if proved.bound == proved.gain else ""
-        lines.append(f"The plan keeps all limits, gains {joined.spelled(proved.gain)}{best}.")
-    lines.append(f"{proved.leaves} parts, {proved.certificates} certificates.")
-    return "\n".join(lines) + "\n"
 
 
 def main(given: Sequence[str]) -> int:
@@ -164,15 +85,18 @@ def main(given: Sequence[str]) -> int:
     if min(options.seconds, options.solves - 1, options.parts) < 0:
         raise InputFault("--seconds and --parts are from 0, and --solves is from 1")
     joined = Joined([Path(it) for it in options.descriptions], options.descriptions)
-    limits = read_limits(options.limits, joined)
+    real, notes = real_names(options.descriptions, joined), list[str]()
+    limits = read_limits(options.limits, joined, real.names if real else (), notes)
+    for note in notes:
+        print(f"matbench limits: {note}", file=sys.stderr)
     with Progress("limits") as progress:
         if options.verify:
             proved = verify(options.verify, joined, limits, progress)
-            write(proved_text(proved, joined), options.output)
+            write(proved_text(proved, joined, real), options.output)
             return DONE
         outcome = solve(joined, limits, options.size, options.seconds, options.solves,
                         options.parts, not options.plain, progress)
         if options.proof:
             write_proof(outcome, options.proof, progress)
-    write(_text(outcome, options.format), options.output)
+    write(outcome_text(outcome, real, options.format), options.output)
     return DONE

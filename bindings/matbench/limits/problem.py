@@ -1,15 +1,11 @@
 """What further limits join: descriptions, and amounts of their elements that add up."""
 from __future__ import annotations
 
-import fnmatch
-import re
 from dataclasses import dataclass
-from fractions import Fraction
 from typing import TYPE_CHECKING
 
 from matbench.faults import InputFault
 from matbench.limits.pairs import Pair
-from matbench.spreadsheets import numbers_of, read_sheet, scale_of
 from matbench.weights import weight_of
 from matbench.writing import MOST_WEIGHT
 
@@ -17,7 +13,6 @@ if TYPE_CHECKING:
     from collections.abc import Collection, Iterable, Mapping, Sequence
 
     from matbench.descriptions import Problem
-    from matbench.spreadsheets import Row, Source
     from matbench.weights import Weight
 
 
@@ -93,62 +88,3 @@ def _folded(weights: Sequence[tuple[int, int]]) -> tuple[list[int], int]:
         raise InputFault("the weights A:B are too large to be one number each: measure them in"
                          " larger units")
     return folded, base
-
-
-def _elements_of(row: Row, joined: Joined) -> list[int]:
-    """The elements that a line of the limits names: one, or all that a pattern fits."""
-    word = row["element"].replace(" ", "_")
-    if word in joined.index:
-        return [joined.index[word]]
-    found = [place for place, name in enumerate(joined.names) if fnmatch.fnmatchcase(name, word)] \
-        if re.search(r"[*?\[]", word) else []
-    if not found:
-        raise row.fault(f"'{row['element'][:60]}' is no element of the descriptions, and no pattern"
-                        " of one, such as Ada.*night")
-    return found
-
-
-def _amounts(rows: Sequence[Row]) -> list[Fraction]:
-    """The amounts of lines: 1 where a cell is empty. Raises InputFault for one below 0."""
-    given = [it for it in rows if it["amount"]]
-    found = dict(zip(map(id, given), numbers_of(given, "amount")))
-    for row in given:
-        if found[id(row)] < 0:
-            raise row.fault("an amount is from 0")
-    return [found.get(id(row), Fraction(1)) for row in rows]
-
-
-def read_limits(source: Source, joined: Joined) -> list[Limit]:
-    """The further limits of a table with the columns limit, most, element and amount. Raises
-    InputFault."""
-    sheet = read_sheet(source, "the limits")
-    sheet.hold_to(("limit", "most", "element"), ("amount",))
-    rows: dict[str, list[Row]] = {}
-    for row in sheet.rows:
-        if not row["limit"]:
-            raise row.fault("the limit has no name")
-        rows.setdefault(row["limit"], []).append(row)
-    return [_limit(name, own, joined) for name, own in rows.items()]
-
-
-def _limit(name: str, rows: Sequence[Row], joined: Joined) -> Limit:
-    """A further limit of its lines, of which one at least says how much at most."""
-    said = [it for it in rows if it["most"]]
-    mosts = set(numbers_of(said, "most"))
-    if len(mosts) != 1:
-        what = "no line says how much at most" if not mosts else "its lines have different numbers"
-        raise rows[0].fault(f"{name}: {what}")
-    most, = mosts
-    if most < 0:
-        raise said[0].fault("most is from 0")
-    amounts = _amounts(rows)
-    scale = scale_of([most, *amounts])
-    found: dict[int, int] = {}
-    for row, amount in zip(rows, amounts):
-        for it in _elements_of(row, joined):
-            if found.setdefault(it, int(amount * scale)) != amount * scale:
-                raise row.fault(f"{joined.names[it]} counts another amount for {name} in an earlier"
-                                " line")
-    if max([int(most * scale), *found.values()]) > MOST_WEIGHT // 1000:
-        raise rows[0].fault(f"{name}: the numbers are too large: measure in a larger unit")
-    return Limit(name, int(most * scale), {it: each for it, each in found.items() if each}, scale)

@@ -156,6 +156,9 @@ class _Folder:
 
     def __init__(self, folder: str, joined: Joined, limits: Sequence[Limit]):
         self._folder, self.joined, self.given = folder, joined, list(limits)
+        if not Path(folder, "bound.md").is_file():
+            what = "it has no bound.md" if Path(folder).is_dir() else "there is no such folder"
+            raise InputFault(f"{folder} is no proof of limits: {what}")
         head = self.text("bound.md").split("\n", 1)[0]
         found = re.fullmatch("size (all|[0-9]{1,9})", head)
         if not found:
