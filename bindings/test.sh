@@ -123,6 +123,7 @@ if is_built "the Python module" libmatbench.so; then
 fi
 try "the commands of the Python package" env MATBENCH_PROGRAM="$program" python3 "$bindings/tests/command_line.py"
 try "trusses and plans in Python" env MATBENCH_PROGRAM="$program" python3 "$bindings/tests/planning.py"
+try "further limits in Python" env MATBENCH_PROGRAM="$program" python3 "$bindings/tests/further_limits.py"
 if command -v mypy >/dev/null; then
     try "the types of the Python module" env MYPYPATH="$bindings" mypy --strict --cache-dir="$work/types" -p matbench
 else

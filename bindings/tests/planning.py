@@ -125,6 +125,41 @@ class Trusses(InFolder):
             given = ran("truss", self.file("parts.csv", parts), "--format", "json", *words)
             self.assertEqual((given[0], json.loads(given[1])["independent"]), (status, independent))
 
+    def test_what_is_needed_is_told_as_a_sum(self):
+        braced = self.file("braced.csv", SQUARE + "e,P,R\n")
+        parts = self.file("parts.csv", "part,kind,from,to\nh1,hinge,A,B\nb2,bar,B,C\n")
+        for words, told in (
+                ([braced], "5 is 4 joints x 2, less 3 for the whole, which may move."),
+                ([braced, "--pin", "P"], "6 is 4 joints x 2, less 1 pin x 2."),
+                ([braced, "--pin", "P", "--pin", "S", "--roller", "R"],
+                 "4 is 4 joints x 2, less 2 pins x 2; a roller counts as 1 bar."),
+                ([braced, "--roller", "R"], "8 is 4 joints x 2; a roller counts as 1 bar."),
+                ([parts], "6 is 3 bodies x 3, less 3 for the whole, which may move; a hinge counts"
+                          " as 2 bars."),
+                ([parts, "--space"], "12 is 3 bodies x 6, less 6 for the whole, which may move; a"
+                                     " hinge counts as 5 bars.")):
+            with self.subTest(told=told):
+                self.assertEqual(ran("truss", *words)[1].splitlines()[1], told)
+
+    def test_what_is_rigid_has_the_caveat_of_special_positions(self):
+        caveat = "it may move all the same: this is not tried."
+        self.assertIn(caveat, ran("truss", self.file("braced.csv", SQUARE + "e,P,R\n"))[1])
+        self.assertNotIn(caveat, ran("truss", self.file("loose.csv", SQUARE))[1])
+
+    def test_a_folder_says_what_it_is_of(self):
+        proof = self.folder / "proof"
+        ran("truss", self.file("braced.csv", SQUARE + "e,P,R\n"), "--proof", proof)
+        status, text, notes = ran("truss", "--space", "--verify", proof)
+        self.assertEqual((status, text[:28]), (0, "RIGHT: 5 independent bars, a"))
+        self.assertEqual(notes, "matbench truss: the folder says what it is of: --space, --pin and"
+                                " --roller are not looked at\n")
+        self.assertEqual(ran("truss", "--verify", proof)[2], "")
+        for folder, told in ((self.folder, "it has no proof.txt"),
+                             (self.folder / "none", "there is no such folder")):
+            self.assertEqual(ran("truss", "--verify", folder)[2],
+                             f"matbench truss: {folder} is no proof of a truss: {told}\n")
+        self.assertEqual(ran("truss", "--verify", proof, "--no-proof")[0], 2)
+
     def test_what_is_not_taken_is_told(self):
         cases = [("bar,from\na,P\n", [], "the first line has the columns bar, from, to"),
                  ("bar,from,to\na,P,\n", [], "there is no to"),

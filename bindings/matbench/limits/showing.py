@@ -46,8 +46,12 @@ def _amount(value: int, limit: Limit) -> int | float:
     return _number(Fraction(value, limit.scale))
 
 
+def _counted(count: int) -> str:
+    return f"{count} element{'' if count == 1 else 's'}"
+
+
 def _elements(size: int | None) -> str:
-    return "" if size is None else f" of {size} elements"
+    return "" if size is None else f" of {_counted(size)}"
 
 
 def _sentences(outcome: Outcome, real: RealNames | None) -> list[str]:
@@ -60,7 +64,7 @@ def _sentences(outcome: Outcome, real: RealNames | None) -> list[str]:
     if outcome.plan is None or outcome.gain is None:
         return [f"no plan{of} was found that keeps all limits. If there is one, it gains at most"
                 f" {told(outcome.bound)}."]
-    plan = f"plan: {len(outcome.plan)} elements, gain {told(outcome.gain)}"
+    plan = f"plan: {_counted(len(outcome.plan))}, gain {told(outcome.gain)}"
     if outcome.is_best:
         return [plan, f"best: no plan{of} that keeps all limits gains more."]
     return [plan, f"bound: no plan{of} that keeps all limits gains more than {told(outcome.bound)}."

@@ -1,6 +1,7 @@
 """python3 -m matbench roster: a roster from two spreadsheets."""
 from __future__ import annotations
 
+import sys
 from pathlib import Path
 from typing import TYPE_CHECKING
 
@@ -9,6 +10,7 @@ from matbench.faults import InputFault
 from matbench.limits.proofs import write_proof
 from matbench.limits.solving import SECONDS
 from matbench.progress import Progress
+from matbench.roster.folders import elements_table, how_to_check
 from matbench.roster.picture import picture
 from matbench.roster.reading import read_request, with_last
 from matbench.roster.showing import json_text, told, wishes_table, words
@@ -107,6 +109,7 @@ def _write_proof(folder: str, roster: Roster) -> None:
         raise InputFault(f"{folder} cannot be made: {error.strerror}") from error
     for number, text in enumerate(roster.written.texts):
         write(text, f"{folder}/roster{number}.txt")
+    write(elements_table(roster).csv(), f"{folder}/elements.csv")
     for answer in roster.answers:
         write(answer.certificate, f"{folder}/roster0.answer")
     if roster.outcome is not None:
@@ -152,4 +155,6 @@ def main(given: Sequence[str]) -> int:
         write(picture(roster), options.picture)
     if options.proof:
         _write_proof(options.proof, roster)
+        print(f"matbench roster: this checks the proof: {how_to_check(roster, options.proof)}",
+              file=sys.stderr)
     return DONE

@@ -17,10 +17,11 @@ from matbench.truss.structures import JOINTS, SPACE_BODIES
 
 if TYPE_CHECKING:
     import argparse
-    from collections.abc import Sequence
+    from collections.abc import Mapping, Sequence
 
     from matbench.truss.analysis import Analysis
     from matbench.truss.proofs import Proof
+    from matbench.truss.structures import Structure
 
 ABOUT = """\
 Whether a truss in the plane is rigid, or bodies that are joined by bars and hinges; how many bars
@@ -68,6 +69,9 @@ def _words(words: Sequence[str]) -> argparse.Namespace:
         parser.error("name the table FILE, or a folder with --verify")
     if given.proof and given.no_proof:
         parser.error("--proof and --no-proof do not go together")
+    if given.verify and (given.proof or given.no_proof):
+        parser.error("--verify checks a proof that is there: --proof and --no-proof do not go with"
+                     " it")
     return given
 
 
@@ -78,20 +82,34 @@ def _plural(count: int, word: str) -> str:
 
 
 def _counts(found: Analysis) -> str:
-    """The sizes, and what is needed, in one line."""
+    """The sizes, what is needed, and how that is counted, in two lines."""
     structure = found.structure
     kinds = [it.kind for it in structure.members]
-    vertex = "joint" if structure.sparsity == JOINTS else "body"
     ends = {end for it in structure.members if it.kind in ("bar", "hinge")
             for end in (it.start, it.end)}
     counts = {kind: kinds.count(kind) for kind in ("bar", "hinge", "roller")}
     # A pin, and the foot of a roller, is two bars to the ground, which has a bar of its own.
     counts["pin"] = max(0, structure.ground_bars - 1) // 2 - counts["roller"]
-    sizes = [_plural(len(ends), vertex),
-             *(_plural(count, kind) for kind, count in counts.items() if count)]
-    bars = " (a hinge counts as {})".format(5 if structure.sparsity == SPACE_BODIES else 2)
-    return (f"{', '.join(sizes)}: {found.needed} independent bars"
-            f"{bars if 'hinge' in kinds else ''} are needed, and there are {found.rank}.\n")
+    vertices = _plural(len(ends), "joint" if structure.sparsity == JOINTS else "body")
+    sizes = [vertices, *(_plural(count, kind) for kind, count in counts.items() if count)]
+    return (f"{', '.join(sizes)}: {found.needed} independent bars are needed, and there are"
+            f" {found.rank}.\n"
+            f"{found.needed} is {vertices} x {structure.sparsity.each}{_less(structure, counts)}.\n")
+
+
+def _less(structure: Structure, counts: Mapping[str, int]) -> str:
+    """What is taken off from the motions of all joints or bodies, and what hinges and rollers count
+    for."""
+    said, pins = "", counts["pin"]
+    if not structure.ground_bars:
+        said = f", less {structure.sparsity.short} for the whole, which may move"
+    elif pins:
+        said = f", less {_plural(pins, 'pin')} x {structure.sparsity.each}"
+    if counts["roller"]:
+        said += "; a roller counts as 1 bar"
+    if counts["hinge"]:
+        said += f"; a hinge counts as {5 if structure.sparsity == SPACE_BODIES else 2} bars"
+    return said
 
 
 def _verdict(found: Analysis, proof: Proof | None) -> str:
@@ -103,6 +121,11 @@ def _verdict(found: Analysis, proof: Proof | None) -> str:
         said = f"NOT RIGID: {_plural(found.missing, 'bar')} {are} missing."
     are = "are" if found.surplus > 1 else "is"
     said += f" {_plural(found.surplus, 'bar') if found.surplus else 'No bar'} {are} redundant.\n"
+    if found.is_rigid:
+        case = "joints in one line" if found.structure.sparsity == JOINTS else \
+            "bars through one point"
+        said += (f"In a special position, as with {case}, it may move all the same: this is not"
+                 " tried.\n")
     if proof is None:
         return said + "Counted, without a certificate.\n"
     return said + (f"Proved by {_plural(len(proof.bases), 'certificate')} of cover and a count, which"
@@ -188,6 +211,9 @@ def main(words: Sequence[str]) -> int:
     """Runs the command."""
     given = _words(words)
     if given.verify:
+        if given.space or given.pin or given.roller:
+            print("matbench truss: the folder says what it is of: --space, --pin and --roller are"
+                  " not looked at", file=sys.stderr)
         return _verify(given.verify)
     structure, notes = read_structure(given.file, given.pin, given.roller, given.space)
     for note in notes:

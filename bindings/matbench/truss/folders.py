@@ -12,6 +12,7 @@ import io
 import os
 from typing import TYPE_CHECKING
 
+from matbench.faults import InputFault
 from matbench.spreadsheets import read_sheet
 from matbench.texts import read_text, write_folder
 from matbench.truss.proofs import WHOLE, NotProved, Proof, description
@@ -138,6 +139,9 @@ def read_proof(folder: str) -> Proof:
     def path(name: str) -> str:
         return os.path.join(folder, name)
 
+    if not os.path.isfile(path("proof.txt")):
+        what = "it has no proof.txt" if os.path.isdir(folder) else "there is no such folder"
+        raise InputFault(f"{folder} is no proof of a truss: {what}")
     kind = read_text(path("proof.txt")).partition("\n")[0]
     try:
         table, counts = read_sheet(path("bars.csv")), read_sheet(path("parts.csv"))
