@@ -56,6 +56,8 @@ class Search:
         self.by_gain = sorted((it for it in range(joined.n) if all(
             amount <= self.caps[each] for each, amount in self.of[it])),
             key=lambda it: -self.gains[it])
+        self._ranks = {it: rank for rank, it in enumerate(self.by_gain) if self.gains[it] > 0}
+        self._near: dict[int, frozenset[int]] = {}
 
     def _limit(self, cap: int, amounts: Iterable[tuple[int, int]]) -> None:
         """Adds a limit."""
@@ -141,6 +143,29 @@ class Search:
                 if time.monotonic() > until:
                     break
 
+    def _near_to(self, element: int) -> frozenset[int]:
+        """The elements that share a limit with an element and gain something, by their places in
+        the order of gains."""
+        if element not in self._near:
+            self._near[element] = frozenset(self._ranks[it] for each, _ in self.of[element]
+                                            for it in self.members[each] if it in self._ranks)
+        return self._near[element]
+
+    def _filled(self, plan: Plan, outs: Sequence[int]) -> list[int]:
+        """Adds what fits now that these elements are out of a plan, the greatest gain first, and
+        answers it."""
+        used, caps, of, added = plan.used, self.caps, self.of, []
+        for rank in sorted(frozenset().union(*map(self._near_to, outs))):
+            element = self.by_gain[rank]
+            for each, amount in of[element]:
+                if used[each] + amount > caps[each]:
+                    break
+            else:
+                if element not in outs and self.fits(plan, element):
+                    plan.add(element)
+                    added.append(element)
+        return added
+
     def _exchanged(self, plan: Plan, element: int, size: int | None) -> bool:
         """Whether a plan gains by an element in the place of others, which is done then."""
         outs = self._outs(plan, element)
@@ -156,12 +181,7 @@ class Search:
             plan.add(element)
             added.append(element)
             if size is None:
-                near = {it for out in outs for each, _ in self.of[out]
-                        for it in self.members[each]} - set(outs)
-                for it in sorted(near, key=lambda each: (-self.gains[each], each)):
-                    if self.gains[it] > 0 and self.fits(plan, it):
-                        plan.add(it)
-                        added.append(it)
+                added += self._filled(plan, outs)
         if added and sum(self.gains[it] for it in added) > lost:
             return True
         for it in added:
