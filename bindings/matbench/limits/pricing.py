@@ -108,6 +108,7 @@ class Pricing:
     is_empty: bool = False
     _sets: list[list[int]] = field(default_factory=list)
     _units: list[float] = field(default_factory=list)
+    _uses: dict[tuple[int, ...], list[int]] = field(default_factory=dict)
 
     def _take(self, prices: Sequence[float]) -> Solve | None:
         """Solves at prices, keeps the plans and the bound."""
@@ -129,11 +130,17 @@ class Pricing:
         self._units = [max(mean * len(it.amounts) / max(1, sum(it.amounts.values())),
                            1.0 / self.bounds.scale) for it in self.bounds.limits]
 
+    def _used(self, members: Sequence[int]) -> list[int]:
+        """What a plan uses of each limit. It is counted once; limits are only added."""
+        known = self._uses.setdefault(tuple(members), [])
+        known += [it.used(members) for it in self.bounds.limits[len(known):]]
+        return known
+
     def _cuts(self) -> list[tuple[float, list[float]]]:
         """The plans as cuts."""
         return [(float(self.bounds.joined.gain_of(members)),
-                 [(it.most - it.used(members)) * unit
-                  for it, unit in zip(self.bounds.limits, self._units)])
+                 [(it.most - used) * unit for it, used, unit
+                  in zip(self.bounds.limits, self._used(members), self._units)])
                 for members in self._sets]
 
     @property
