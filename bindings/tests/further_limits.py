@@ -101,8 +101,8 @@ class RealNames(InFolder):
         found = json.loads(ran("limits", self.text, self.hours, "--format", "json")[1])
         self.assertEqual((found["gain"], found["real"]), ("1:2925", {
             "names": ["Jörg.Mo Früh", "Zoë.Mo Nacht", "Ann.Mo Früh"], "gain": 29.25, "needed": 1}))
-        rows = csv.DictReader(io.StringIO(ran("limits", self.text, self.hours, "--format", "csv")[1]))
-        self.assertEqual([(row["name"], row["gain"]) for row in rows], [
+        lines = io.StringIO(ran("limits", self.text, self.hours, "--format", "csv")[1])
+        self.assertEqual([(row["name"], row["gain"]) for row in csv.DictReader(lines)], [
             ("Jörg.Mo Früh", "10.25"), ("Zoë.Mo Nacht", "12.5"), ("Ann.Mo Früh", "6.5")])
 
     def test_a_name_is_of_both_elements_of_a_wish(self):
@@ -120,8 +120,8 @@ class RealNames(InFolder):
     def test_a_table_that_does_not_fit_is_not_taken(self):
         path = self.proof / "elements.csv"
         right = path.read_text()
-        for old, new in (("Ann.Mo_Fruh,", "Eve.Mo_Fruh,"), ("Ann.Mo Früh,", ","), ("6.5,1", "6.5,x"),
-                         ("6.5,1", "1/2,1"), ("element,", "item,")):
+        for old, new in (("Ann.Mo_Fruh,", "Eve.Mo_Fruh,"), ("Ann.Mo Früh,", ","),
+                         ("6.5,1", "6.5,x"), ("6.5,1", "1/2,1"), ("element,", "item,")):
             with self.subTest(new=new):
                 path.write_text(right.replace(old, new))
                 self.assertIsNone(real_names([self.text], limits.Joined([self.text])))
@@ -144,8 +144,9 @@ class RealNames(InFolder):
         self.assertIn("gains more than 1255. The gap is 25:", outcome_text(outcome))
 
     def test_a_roster_says_how_its_proof_is_checked(self):
-        self.assertEqual(self.notes, "matbench roster: this checks the proof: " + shlex.join([
-            "matbench", "check", f"{self.proof}/roster0.txt", f"{self.proof}/roster0.answer"]) + "\n")
+        words = ["matbench", "check", *(f"{self.proof}/roster0.{end}" for end in ("txt", "answer"))]
+        self.assertEqual(self.notes,
+                         f"matbench roster: this checks the proof: {shlex.join(words)}\n")
         wishes = self.file("w.csv", "person,week,day,kind,shift,gain\n" + "".join(
             f"Ada,{week},{day},{kind},{day} {kind},{gain}\n" for week, day, kind, gain in (
                 (1, "Mo", "night", 5), (1, "Tu", "early", 3), (2, "Mo", "night", 4),

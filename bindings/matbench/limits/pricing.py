@@ -176,8 +176,8 @@ class Pricing:
 
     def _next(self, center: list[float], value: float, step: float,
               is_stuck: bool) -> tuple[Mixed, float] | None:
-        """The next prices and the step to them, with covers and a longer step where the cuts foresee
-        no lower bound; or None where that does not help. `center` is extended for covers."""
+        """The next prices and the step to them, with covers and a longer step where the cuts
+        foresee no lower bound; or None where that does not help. `center` is extended for covers."""
         mixed = self._mix(center, step)
         is_tight = value - mixed.foreseen < max(0.15, 2e-4 * abs(value - (self.low or 0)))
         if not is_tight and not is_stuck:

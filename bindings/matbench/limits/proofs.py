@@ -1,5 +1,6 @@
 """Proofs as folders: the charged descriptions and their certificates, which `matbench check`
-judges, the prices, and one sum. A reader needs the folder, the descriptions and the table of limits.
+judges, the prices, and one sum. A reader needs the folder, the descriptions and the table of
+limits.
 
 leaves.csv     the parts of all plans: a path of elements that its plans have (+) or have not (-),
                and the prices, or none where the part has no plan

@@ -94,7 +94,8 @@ def _counts(found: Analysis) -> str:
     sizes = [vertices, *(_plural(count, kind) for kind, count in counts.items() if count)]
     return (f"{', '.join(sizes)}: {found.needed} independent bars are needed, and there are"
             f" {found.rank}.\n"
-            f"{found.needed} is {vertices} x {structure.sparsity.each}{_less(structure, counts)}.\n")
+            f"{found.needed} is {vertices} x {structure.sparsity.each}"
+            f"{_less(structure, counts)}.\n")
 
 
 def _less(structure: Structure, counts: Mapping[str, int]) -> str:
@@ -128,8 +129,8 @@ def _verdict(found: Analysis, proof: Proof | None) -> str:
                  " tried.\n")
     if proof is None:
         return said + "Counted, without a certificate.\n"
-    return said + (f"Proved by {_plural(len(proof.bases), 'certificate')} of cover and a count, which"
-                   " --proof FOLDER writes.\n")
+    return said + (f"Proved by {_plural(len(proof.bases), 'certificate')} of cover and a count,"
+                   " which --proof FOLDER writes.\n")
 
 
 def _table(found: Analysis) -> Table:
