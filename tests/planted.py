@@ -29,6 +29,9 @@ TOP = os.path.dirname(os.path.dirname(os.path.realpath(__file__)))
 PLANTED = f'{TOP}/tests/planted'
 FUNCTION = re.compile(r'^\s*(?:pub(?:\([a-z]+\))? )?(?:const )?(?:unsafe )?fn (\w+)', re.M)
 
+# What a check says of a name that several functions have, and their paths.
+SEVERAL = re.compile(r'several functions are named `(\w+)`: help: write one of (.*)')
+
 
 def kept_module():
     """launcher/kept.py, which knows rt."""
@@ -110,13 +113,15 @@ def quoted(edit, folder):
 
 
 def functions_of(edit, folder):
-    """The functions that an edit changes, or None if it changes something else."""
+    """The functions that an edit changes, each with its module, or None if it changes something
+    else."""
     names = []
     for file, text, old in quoted(edit, folder):
         before = FUNCTION.findall(text[:text.index(old) + len(old)])
         if not file.startswith('src/') or not before:
             return None
-        names.append(before[-1])
+        module = file[len('src/'):-len('.rt')].replace('/', '::')
+        names.append(('' if module in ('lib', 'main') else f'{module}::', before[-1]))
     return sorted(set(names))
 
 
@@ -132,15 +137,30 @@ def reads_well(crate, edit):
     return False
 
 
+def check_alone(rt, crate, texts, names):
+    """A check of these functions alone, with these texts in place of the crate's own."""
+    only = [word for name in names for word in ('--only', name)]
+    return rt.checked(crate, texts, ['--jobs', '1', *only], None)
+
+
 def try_functions(rt, crate, edit):
     """What a check of the functions that an edit changes comes to, None if it says nothing, and
     what is said of it."""
+    tried = set()
     texts, why = rt.read_edit(edit, crate.folder)
-    names = None if why else functions_of(edit, crate.folder)
-    if names is None:
+    functions = None if why else functions_of(edit, crate.folder)
+    if functions is None:
         return None, why or 'no function is changed'
-    only = [word for name in names for word in ('--only', name)]
-    ran = rt.checked(crate, texts, ['--jobs', '1', *only], None)
+    names = [name for _, name in functions]
+    ran = check_alone(rt, crate, texts, names)
+    for several in iter(lambda: SEVERAL.search(ran.stdout), None):
+        modules = [f'{crate.name}::{module}' for module, name in functions if name == several[1]]
+        names = [it for it in names if it != several[1]] + \
+                [it for it in re.findall(r'`([\w:]+)`', several[2]) if it.startswith(tuple(modules))]
+        if several[1] in tried or not names:
+            break
+        tried.add(several[1])
+        ran = check_alone(rt, crate, texts, names)
     lines = ran.stdout.rstrip('\n').split('\n')
     has_ended = any(re.match(r'only=\d+ proved=', line) for line in lines)
     if ran.returncode != 1 or not has_ended or any(rt.unread(line, texts) for line in lines):

@@ -17,6 +17,7 @@ PROVER = '''#!/bin/sh
 echo "$*" | sed 's/.*--crate-name \\([a-z]*\\) .*--jobs 1/\\1/' >>"$(dirname "$0")/../calls"
 last=logic=not-proved
 case "$*" in *--only*) last="only=1 proved=0" ;; esac
+case "$*" in *"--only both") echo 'error: several functions are named `both`: help: write one of `low::A::both`, `other::both`'; exit 2 ;; esac
 if grep -q WRONG src/lib.rt; then
     echo 'src/lib.rt:9:5: error: `second`: a goal is open'
     echo "$last"
@@ -102,6 +103,15 @@ def try_verdicts(place):
     tell('a word that is none', place.planted('--other')[0], 64)
 
 
+def try_several(place):
+    """A function whose name another one has too: its path is taken."""
+    written(f'{place.top}/crates/low/src/lib.rt', SOURCE + 'fn both() {\n    BOTH\n}\n')
+    place.plant('low/of_both', '    BOTH', 'WRONG')
+    tell('several of a name', place.planted('low/of_both')[::2],
+         (0, ['low --only both', 'low --only low::A::both']))
+    os.remove(f'{place.top}/tests/planted/low/of_both.edit')
+
+
 def try_reading(place):
     """Edits that are read alone."""
     status, lines, calls = place.planted('--read')
@@ -130,6 +140,7 @@ def main():
         try_verdicts(place)
         try_libraries(place)
         try_reading(place)
+        try_several(place)
     print(f'{results.count(True)} passed, {results.count(False)} failed')
     return 0 if all(results) else 1
 
