@@ -191,25 +191,57 @@ def faults_of_second(problem, every):
         yield f"the second best is {told}, and not {right}"
 
 
+class Limits:
+    """The limits of a drawn problem that have a row, by the rules that the help of one-more has."""
+
+    def __init__(self, problem):
+        self.problem = problem
+        self.limits = [(rule, at, self.members(line), line) for rule, (lines, _) in
+                       enumerate(problem.rules) for at, line in enumerate(lines)
+                       if line.split()[0] in ("class", "set", "uniform", "truncate")]
+        self.leasts = [it for it in self.limits if self.is_least(it[2])]
+        self.rows = [it for it in self.limits if it not in self.leasts
+                     and (len(it[2]) < 2 or len(problem.wishes(it[2])) > 1)]
+
+    def members(self, line):
+        """The elements of a limit."""
+        words = line.split()
+        return [int(it.strip("{}")) for it in words[2:]] if words[0] in ("class", "set") else \
+            list(range(self.problem.count))
+
+    def copies(self, element):
+        """The other elements of the wish of an element."""
+        wish = self.problem.wishes([element])
+        return [it for it in range(self.problem.count)
+                if it != element and self.problem.wishes([it]) == wish]
+
+    def is_least(self, members):
+        """Whether each element has a copy outside that counts for less."""
+        first = [it for it, _ in self.problem.weights]
+        return bool(members) and all(
+            any(first[copy] < first[it] for copy in self.copies(it))
+            and not set(self.copies(it)) & set(members) for it in members)
+
+    def is_both(self, rule, members):
+        """Whether one more element does not count."""
+        return rule in {it[0] for it in self.leasts} and bool(members) and all(
+            self.problem.weights[it][0] > 0 and not self.copies(it) for it in members)
+
+
 def faults_of_one_more(problem, every):
     """What is said wrong of one more place in each limit."""
     best, gains = one_more.one_more(problem.text)
-    right = max(map(problem.weight, every))
+    right, limits = max(map(problem.weight, every)), Limits(problem)
     if pair_of(best.weight) != right:
         yield f"the best plan weighs {best.weight}"
-    told = iter(gains)
-    for rule, (lines, _) in enumerate(problem.rules):
-        for at, line in enumerate(lines):
-            if line.split()[0] not in ("class", "set", "uniform", "truncate"):
-                continue
-            more = max(map(problem.weight, problem.plans(rule, at)))
-            gain = tuple(one - two for one, two in zip(more, right))
-            it = next(told)
-            if pair_of(it.gain) != gain or it.rule != rule + 1 or \
-                    pair_of(it.plan.weight) != more:
-                yield f"one more in {line!r} of rule {rule + 1} gains {it.gain}, and not {gain}"
-    if next(told, None):
-        yield "there are more limits than lines"
+    if [it.rule for it in gains] != [rule + 1 for rule, _, _, _ in limits.rows]:
+        yield f"there are {len(gains)} limits, and not {len(limits.rows)}"
+    for it, (rule, at, members, line) in zip(gains, limits.rows):
+        most = int(line.split()[1]) if limits.is_both(rule, members) else problem.count
+        gain = max((problem.weight(plan)[0] - right[0] - (len(set(plan) & set(members)) > most),
+                    problem.weight(plan)[1] - right[1]) for plan in problem.plans(rule, at))
+        if pair_of(it.gain) != gain or it.cap < int(line.split()[1]):
+            yield f"one more in {line!r} of rule {rule + 1} gains {it.gain}, and not {gain}"
 
 
 def faults_of_changes(numbers, problem, every):

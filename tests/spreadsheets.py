@@ -3,8 +3,8 @@
 the top of the repository.
 
 Draws small tables of wishes and limits, with and without the columns day, week, kind, must, never,
-last and least; makes a roster of each, and compares what it meets, its gain and what it keeps of
-last time with what is found by trying all plans. Two weeks of more than 500 elements are solved
+last and least; makes a roster of each, and compares what it meets, its gain, what it keeps of last
+time and what one more place in each limit brings with what is found by trying all plans. Two weeks of more than 500 elements are solved
 together. Then it spoils a table in each way of a list, and expects that the package says what is
 wrong; saves it in other ways, which have to give the same description; and has the commands read
 files that are none of theirs. What is wrong is printed. The last line is `N passed, M failed`, and the status is 1 if
@@ -104,8 +104,9 @@ def drawn(numbers):
     return wishes, limits
 
 
-def keeps(plan, limits):
-    """Whether a plan keeps all limits, by counting."""
+def keeps(plan, limits, raised=('', '', '', None)):
+    """Whether a plan keeps all limits, by counting. One may be raised by one place, by its name,
+    kind and column, and the week and day of its shift."""
     for limit in limits:
         own = [it for it in plan if limit['name'] in (it['person'], it['shift'])
                and limit.get('kind', '') in ('', it['kind'])]
@@ -116,7 +117,9 @@ def keeps(plan, limits):
             most = limit.get(column, '')
             if column == 'day' and most == '' and by_person and not limit.get('kind'):
                 most = 1
-            if most != '' and any(it > most for it in collections.Counter(map(key, own)).values()):
+            is_raised = raised[:3] == (limit['name'], limit.get('kind', ''), column)
+            if most != '' and any(count > most + (is_raised and raised[3] in (None, place))
+                                  for place, count in collections.Counter(map(key, own)).items()):
                 return False
     return True
 
@@ -165,6 +168,71 @@ class Tables:
             return f'fault: {fault}'
 
 
+def all_of(wishes):
+    """All plans of some wishes."""
+    return (list(plan) for size in range(len(wishes) + 1)
+            for plan in itertools.combinations(wishes, size))
+
+
+def raised_limits(request):
+    """What each limit of a request is called, and which it is."""
+    for shift, limit in request.shifts.items():
+        yield shift.title, (shift.name, '', 'most', (shift.week, shift.day))
+        for kind in limit.kinds:
+            yield f'{shift.title}, {kind}', (shift.name, kind, 'most', (shift.week, shift.day))
+    for person, limit in request.people.items():
+        yield person, (person, '', 'most', None)
+        for column in ('week', 'day'):
+            if getattr(limit, column) is not None:
+                yield f'{person}, in a {column}', (person, '', column, None)
+        for kind in limit.kinds:
+            yield f'{person}, {kind}', (person, kind, 'most', None)
+
+
+def wrong_changes(tables, found, valued, limits):
+    """What is said wrong of one more place in each limit of a roster."""
+    told, known = {it.what: it for it in tables.roster.what_if(found)}, dict(
+        raised_limits(found.request))
+    if set(told) != set(known):
+        yield f'{sorted(told)} are told of, and not {sorted(known)}'
+    now = max(value for plan, value in valued if keeps(plan, limits))[:2]
+    for what, raised in known.items():
+        more = max(value for plan, value in valued if keeps(plan, limits, raised))[:2]
+        change = (more[0] - now[0], more[1] - now[1])
+        it = told[what]
+        if it.is_proved and (it.met, it.gain) != change:
+            yield f'one more in {what} brings {it.met} and {it.gain}, and not {change}'
+        brings = sum(wish.gain for wish in it.new) - sum(wish.gain for wish in it.dropped)
+        if brings != it.gain or bool(it.new or it.dropped) != bool(it.gain or it.met):
+            yield f'{what}: {it.new} and {it.dropped} do not bring {it.gain}'
+
+
+def wrong_rows(found, valued, limits):
+    """What `one-more` says wrong of the shifts in the description of a roster without kinds, wishes
+    that have to be granted, and a last roster."""
+    from matbench.one_more import one_more
+    from matbench.weights import pair_of
+    request = found.request
+    is_plain = all(not it.must and it.last is None for it in request.wishes) and not any(
+        it.kinds for it in request.shifts.values())
+    if not is_plain or not found.answers or all(it.never for it in request.wishes):
+        return
+    gains = [it for it in one_more(found.written.texts[0], has_least=request.has_demands)[1]
+             if it.rule == 1]
+    shifts = sorted({it.shift for it in request.wishes if not it.never}, key=lambda it: it.title)
+    now = max(value for plan, value in valued if keeps(plan, limits))
+    if len(gains) != len(shifts):
+        yield f'one-more has {len(gains)} rows for {len(shifts)} shifts'
+    for it, shift in zip(gains, shifts):
+        raised = shift.name, '', 'most', (shift.week, shift.day)
+        more = max(value for plan, value in valued if keeps(plan, limits, raised))
+        gain = (more[1] - now[1]) * found.written.scale
+        change = (more[0] - now[0], gain) if request.has_demands else (gain, 0)
+        limit = request.shifts[shift]
+        if (pair_of(it.gain), it.cap, it.least) != (change, limit.most, limit.least):
+            yield f'one-more: {it} of {shift.title}, and not {change}'
+
+
 def is_right(tables, numbers):
     """Whether the best roster of drawn tables is as good as any plan; None where a limit is
     refused, or the roster is not proved best, which limits that cross may leave."""
@@ -176,14 +244,16 @@ def is_right(tables, numbers):
     found = tables.roster.solve(request, seconds=1e6)
     granted = [wishes[it] for it in found.granted]
     free = [it for it in wishes if it.get('never') != 'yes']
-    plans = (list(plan) for size in range(len(free) + 1)
-             for plan in itertools.combinations(free, size))
-    best = max(worth(plan, wishes, limits) for plan in plans if keeps(plan, limits))
+    best = max(worth(plan, wishes, limits) for plan in all_of(free) if keeps(plan, limits))
     there = worth(granted, wishes, limits)
     is_told = found.gain == there[1] and (found.changes is None or found.changes == -there[2])
     tables.searched += found.outcome is not None
     if not found.is_best and there <= best and keeps(granted, limits):
         return None
+    valued = [(plan, worth(plan, wishes, limits)) for plan in map(list, all_of(free))]
+    for what in [*wrong_changes(tables, found, valued, limits),
+                 *wrong_rows(found, valued, limits)]:
+        return tell(wishes, limits, what)
     if there == best and keeps(granted, limits) and is_told and all(it in free for it in granted):
         return True
     return tell(wishes, limits, f'{best} is best, and not {there}')

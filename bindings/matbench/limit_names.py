@@ -2,12 +2,15 @@
 
 A limit on Ada.Monday and Ada.Tuesday is that of Ada, if no other element begins with Ada; one on
 Ada.Monday and Ben.Monday is that of Monday, if no other element ends with it. A name of an element
-has pieces between dots, and words between `_` within them. Where elements have no names, limits
+has pieces between dots, and words between `_` within them; that of a limit goes up to a dot if all
+its elements share the words. Copies of a wish have its name. Where elements have no names, limits
 have none.
 """
 from __future__ import annotations
 
 from typing import TYPE_CHECKING
+
+from matbench.variants import wish_of
 
 if TYPE_CHECKING:
     from collections.abc import Iterable, Sequence
@@ -31,13 +34,24 @@ def _has(name: str, piece: str, is_front: bool) -> bool:
     return name == piece or name.endswith(("." + piece, "_" + piece))
 
 
+def _up_to_dot(piece: str, names: Sequence[str], is_front: bool) -> str:
+    """A piece that all names have, with the words behind it, or in front, up to the next dot, as
+    far as all have them."""
+    for longer in _starts(names[0], is_front):
+        more = longer[len(piece):] if is_front else longer[:-len(piece)]
+        if len(longer) > len(piece) and "." not in more and all(
+                _has(name, longer, is_front) for name in names):
+            piece = longer
+    return piece
+
+
 def _side(names: Sequence[str], members: Iterable[int], is_front: bool) -> str | None:
-    """The shortest front, or back, that these elements have and no other one."""
+    """The shortest front, or back, that these elements have and no other one, up to a dot."""
     inside = [names[it] for it in members]
     chosen = set(inside)
     for piece in _starts(inside[0], is_front) if inside else []:
         if all(_has(name, piece, is_front) == (name in chosen) for name in names):
-            return piece
+            return _up_to_dot(piece, inside, is_front)
     return None
 
 
@@ -46,7 +60,8 @@ def limit_names(base: Base) -> list[str]:
     its place. Of a limit that has both, the side goes first that more limits of its rule have."""
     if all(name.isdigit() for name in base.names):
         return [_name(it, (None, None), True) for it in base.limits]
-    sides = [(_side(base.names, it.members, True), _side(base.names, it.members, False))
+    wishes = list(map(wish_of, base.names))
+    sides = [(_side(wishes, it.members, True), _side(wishes, it.members, False))
              for it in base.limits]
     return [_name(it, sides[place], _fronts(base.limits, sides, it.rule))
             for place, it in enumerate(base.limits)]

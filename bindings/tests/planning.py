@@ -42,6 +42,21 @@ set 1 Ben.Mon Ben.Tue Ben.Tue.more
 set 1 Ben.Tue Ben.Tue.more
 end
 """
+#: Monday early needs one and has room for two, late needs one. Ada May wishes both, and works once.
+NEEDS = """matroids 2
+pair 5
+elements Ada_May.Mon_early Ada_May.Mon_early.more Ada_May.Mon_late Ben.Mon_early Ben.Mon_early.more
+weights 1:4 0:4 1:9 1:2 0:2
+partition 3
+class 1 Ada_May.Mon_early Ben.Mon_early
+class 1 Ada_May.Mon_early.more Ben.Mon_early.more
+class 1 Ada_May.Mon_late
+laminar 3
+set 1 Ada_May.Mon_early Ada_May.Mon_early.more Ada_May.Mon_late
+set 1 Ada_May.Mon_early Ada_May.Mon_early.more
+set 1 Ben.Mon_early Ben.Mon_early.more
+end
+"""
 
 
 class Graph:
@@ -231,9 +246,26 @@ class Plans(InFolder):
         self.assertEqual([(it.limit, it.used, it.gain) for it in gains if it.rule == 1][0],
                          ("Mon", 1, 1))
         self.assertEqual([(it.limit, it.gain) for it in gains if it.rule == 2],
-                         [("Ada", 0), ("Ben", 0), ("Ben.Tue", 0)])
+                         [("Ada", 0), ("Ben", 0)])
         rows = json.loads(ran("one-more", self.wishes, "--format", "json")[1])["limits"]
         self.assertEqual(len(rows), len(gains))
+
+    def test_one_more_place_beyond_a_least_number(self):
+        _, gains = one_more.one_more(NEEDS)
+        self.assertEqual([(it.limit, it.cap, it.least, it.used, it.gain) for it in gains],
+                         [("Mon_early", 2, 1, 1, 0), ("Mon_late", 1, 1, 1, 0), ("Ada_May", 1, 0, 1,
+                          matbench.Weight(0, 4))])
+        gains = json.loads(ran("one-more", self.file("n.txt", NEEDS), "--format", "json")[1])
+        self.assertEqual([row["new"] for row in gains["limits"]], ["", "", "Ada_May.Mon_early"])
+
+    def test_a_least_number_without_copies_is_told(self):
+        text = """matroids 2\npair 2\nelements Ada.Mon Ben.Mon\nweights 1:5 1:4\npartition 1
+class 1 Ada.Mon Ben.Mon\npartition 2\nclass 1 Ada.Mon\nclass 1 Ben.Mon\nend\n"""
+        told = [[(it.least, it.gain) for it in one_more.one_more(text, has_least=has_least)[1]]
+                for has_least in (False, True)]
+        self.assertEqual(told[0], [(0, matbench.Weight(1, 4)), (0, 0), (0, 0)])
+        self.assertEqual(told[1], [(1, matbench.Weight(0, 4)), (0, 0), (0, 0)])
+        self.assertIn("0:4", ran("one-more", self.file("n.txt", text), "--least")[1])
 
     def test_few_changes(self):
         choices = few_changes.few_changes(WISHES, ["Ben.Mon"])

@@ -12,9 +12,10 @@ from matbench.limits.solving import SECONDS
 from matbench.progress import Progress
 from matbench.roster.folders import elements_table, how_to_check
 from matbench.roster.picture import picture
+from matbench.roster.raising import what_if
 from matbench.roster.reading import read_request, with_last
 from matbench.roster.showing import json_text, told, wishes_table, words
-from matbench.roster.solving import solve, what_if
+from matbench.roster.solving import solve
 from matbench.roster.writing import write_request
 from matbench.tables import Table
 
@@ -23,7 +24,8 @@ if TYPE_CHECKING:
     from collections.abc import Sequence
 
     from matbench.roster.model import Request
-    from matbench.roster.solving import Change, Roster
+    from matbench.roster.raising import Change
+    from matbench.roster.solving import Roster
     from matbench.roster.writing import Written
 
 ABOUT = """\
@@ -78,7 +80,7 @@ def _parser() -> argparse.ArgumentParser:
     parser.add_argument("--last", metavar="ROSTER",
                         help="a roster of last time, as --format csv writes it")
     parser.add_argument("--one-more", action="store_true",
-                        help="tell too what one more place in each limit brings")
+                        help="tell too what one more place in each limit brings, and who works then")
     parser.add_argument("--tell", action="store_true",
                         help="tell too why no roster is better, in words that can be counted after")
     parser.add_argument("--format", choices=["table", "csv", "json"], default="table",

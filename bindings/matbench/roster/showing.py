@@ -10,8 +10,11 @@ from matbench.tables import Table, json_of
 from matbench.weights import pair_of
 
 if TYPE_CHECKING:
+    from collections.abc import Iterable, Sequence
+
     from matbench.roster.model import Wish
-    from matbench.roster.solving import Change, Roster
+    from matbench.roster.raising import Change
+    from matbench.roster.solving import Roster
 
 
 def number_of(value: Fraction) -> int | float:
@@ -78,21 +81,31 @@ def shifts_table(roster: Roster) -> Table:
     return Table(["shift", "people", "most", "least", "who"], rows)
 
 
-def changes_table(changes: list[Change]) -> Table:
-    """A line for each limit in which one more place brings something."""
+def _listed(wishes: Iterable[Wish]) -> str:
+    """Wishes in a cell."""
+    return "; ".join(f"{it.person}, {it.shift.title}" for it in wishes)
+
+
+def changes_table(changes: Sequence[Change]) -> Table:
+    """A line for each limit: what one more place in it brings, and which wishes are granted then
+    and no longer."""
     needs = any(it.met for it in changes)
-    heads = ["one more place in", "most now", *(["needs met"] if needs else []), "gain"]
-    rows = [[it.what, it.most, *([it.met] if needs else []), number_of(it.gain)] for it in changes]
+    heads = ["one more place in", "most now", *(["needs met"] if needs else []), "gain", "new",
+             "dropped"]
+    rows = [[it.what, it.most, *([it.met] if needs else []), number_of(it.gain), _listed(it.new),
+             _listed(it.dropped)] for it in changes]
     return Table(heads, rows)
 
 
-def words(roster: Roster, changes: list[Change] | None = None) -> str:
+def words(roster: Roster, changes: Sequence[Change] | None = None) -> str:
     """The roster as text: what it is worth, and tables of people and of shifts."""
     parts = ["\n".join(_head(roster)) + "\n", people_table(roster).text(),
              shifts_table(roster).text()]
     if changes is not None:
-        parts.append(changes_table(changes).text() if changes else
-                     "One more place in any single limit brings nothing.\n")
+        parts.append(changes_table(changes).text())
+        if not all(it.is_proved for it in changes):
+            parts.append("Not all of these rosters are proved best: the gains are those of the"
+                         " rosters that were found.\n")
     if roster.request.notes:
         parts.append("".join(f"Note: {it}\n" for it in roster.request.notes))
     return "\n".join(parts)
@@ -115,7 +128,7 @@ def wishes_table(roster: Roster) -> Table:
     return Table(heads, [[it[head] for head in heads] for it in records])
 
 
-def json_text(roster: Roster, changes: list[Change] | None = None) -> str:
+def json_text(roster: Roster, changes: Sequence[Change] | None = None) -> str:
     """The roster as JSON."""
     found: dict[str, Any] = {
         "granted": len(roster.granted), "gain": number_of(roster.gain),

@@ -1,7 +1,6 @@
 """Rosters: the best one for a request, and what it is worth."""
 from __future__ import annotations
 
-import dataclasses
 from dataclasses import dataclass, field
 from fractions import Fraction
 from typing import TYPE_CHECKING
@@ -120,55 +119,3 @@ def solve(request: Request, size: int | None = None, progress: Progress | None =
     if len(written.texts) == 1 and not written.further:
         return _of_one(written, request, size)
     return _of_several(written, request, size, seconds, progress)
-
-
-@dataclass(frozen=True)
-class Change:
-    """What one more place in a limit brings: `what` is the limit, `most` what it is now, and then
-    the gain and how much more of what is needed is met."""
-
-    what: str
-    most: int
-    gain: Fraction
-    met: int
-
-
-def _met(roster: Roster) -> int:
-    """How much of what is needed is met."""
-    request, found = roster.request, 0
-    for shift, limit in request.shifts.items():
-        found += min(roster.people_in(shift), limit.least)
-        found += sum(min(roster.people_in(shift, kind), least)
-                     for kind, (_, least) in limit.kinds.items())
-    return found + sum(request.wishes[it].must for it in roster.granted)
-
-
-def _raised(request: Request) -> Iterator[tuple[str, int, Request]]:
-    """The request with one more place in a limit, for each limit."""
-    for shift, limit in request.shifts.items():
-        more = {**request.shifts, shift: dataclasses.replace(limit, most=limit.most + 1)}
-        yield shift.title, limit.most, dataclasses.replace(request, shifts=more)
-    for person, own in request.people.items():
-        for column in ("most", "week", "day"):
-            most = getattr(own, column)
-            if most is not None:
-                own_more = dataclasses.replace(own, **{column: most + 1})
-                people = {**request.people, person: own_more}
-                word = "" if column == "most" else f", in a {column}"
-                yield f"{person}{word}", most, dataclasses.replace(request, people=people)
-
-
-def what_if(roster: Roster, progress: Progress | None = None) -> list[Change]:
-    """What one more place in each limit brings, by one solve each; limits that bring nothing are
-    left out. The greatest comes first."""
-    cases = list(_raised(roster.request))
-    found = []
-    for number, (what, most, request) in enumerate(cases):
-        if progress:
-            progress.tell(f"one more place: {number} of {len(cases)} limits tried")
-        other = solve(request, roster.size)
-        change = Change(what, most, other.gain - roster.gain, _met(other) - _met(roster))
-        if change.met or change.gain:
-            found.append(change)
-    return sorted(found, key=lambda it: (-it.met, -it.gain))
-
