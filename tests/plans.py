@@ -17,7 +17,6 @@ import pathlib
 import random
 import sys
 import tempfile
-from fractions import Fraction
 
 TOP = pathlib.Path(__file__).resolve().parent.parent
 sys.path.insert(0, str(TOP / "bindings"))
@@ -244,6 +243,11 @@ def faults_of_one_more(problem, every):
             yield f"one more in {line!r} of rule {rule + 1} gains {it.gain}, and not {gain}"
 
 
+def charged(weight, changes, cost):
+    """A weight less what its changes cost."""
+    return tuple(one - each * changes for one, each in zip(weight, cost))
+
+
 def faults_of_changes(numbers, problem, every):
     """What is said wrong of plans with few changes."""
     last = problem.wishes(numbers.choice(every))
@@ -257,15 +261,14 @@ def faults_of_changes(numbers, problem, every):
             (told[-1].changes, pair_of(told[-1].plan.weight))]
     if ends != [(first, best), (fewest, last_gain)]:
         yield f"the ends are {ends}, and not {(first, best)} and {(fewest, last_gain)}"
-    if any(tie for _, tie in problem.weights):
-        return
     for it in told:
         if it.changes != len(it.new) + len(it.dropped):
             yield f"{it.changes} changes, and {it.new} and {it.dropped}"
-        for cost in {it.least, it.least + 1 if it.most is None else it.most}:
-            worth = max(problem.weight(plan)[0] - cost * changes[plan] for plan in every)
-            if pair_of(it.plan.weight)[0] - cost * it.changes != worth:
-                yield f"{it.plan} is not best where a change costs {Fraction(cost)}"
+        more = few_changes.Cost(it.least.gain + 1, it.least.tie)
+        for cost in {it.least, more if it.most is None else it.most}:
+            worth = max(charged(problem.weight(plan), changes[plan], cost) for plan in every)
+            if charged(pair_of(it.plan.weight), it.changes, cost) != worth:
+                yield f"{it.plan} is not best where a change costs {cost}"
 
 
 def shown_in(wanted, folder):

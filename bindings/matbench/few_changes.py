@@ -3,18 +3,20 @@
 A change is an element of the last plan that is dropped, or one that is new. Where each change costs
 so much, the best plan is one call. From the best plan of all to the one of fewest changes, those
 are found that are best at some cost of a change, with the costs from which and up to which each is.
+A cost is a weight for each change: if weights are A:B, its second number counts between equal first
+ones.
 """
 from __future__ import annotations
 
-import re
 from fractions import Fraction
 from typing import TYPE_CHECKING, Any, NamedTuple
 
 from matbench.command_lines import DONE, parser_of, write
+from matbench.faults import InputFault
+from matbench.last_plans import names_of_last
 from matbench.plans import NoPlan, Wanted, add_words, no_plan, record_of, wanted_of
 from matbench.progress import Progress
 from matbench.tables import Table, json_of
-from matbench.texts import read_text
 
 if TYPE_CHECKING:
     from collections.abc import Callable, Iterable, Sequence
@@ -30,10 +32,11 @@ Plans that change little of a last one: from the best plan to the one of fewest 
 are best where a change costs so much. A change is an element of the last plan that is dropped, or
 one that is new. Between two of these plans there may be others, which are best at no such cost.
 
-FILE is a description of the form `pair`, or `list` with one matroid. If its weights have the form
-A:B, what a change costs is not shown. LAST is a text with the names
-of the last plan, with spaces, commas or line ends between them, as `python3 -m matbench names
---best` prints it. Names that FILE does not have are changes in any case, and are not counted."""
+FILE is a description of the form `pair`, or `list` with one matroid. What a change costs is shown
+as a weight: the loss, divided by the changes that are saved. LAST has the names of the last plan,
+with spaces, commas or line ends between them, as `python3 -m matbench names --best` prints it, or
+it is a roster as `roster --format csv` writes it. Names that FILE does not have are changes in any
+case, and are not counted; at least one has to be there."""
 EXAMPLES = """\
 examples:
   python3 -m matbench few-changes wishes.txt last_plan.txt
@@ -42,25 +45,43 @@ examples:
 The status is 0, or 1 where there is no plan, or 2 where what was given is not taken."""
 
 
+class Cost(NamedTuple):
+    """What a change costs: two numbers, of which the second one counts between equal first ones. It
+    is spelled like a weight, in fractions with two decimals."""
+
+    gain: Fraction
+    tie: Fraction
+
+    def __str__(self) -> str:
+        words = [str(it) if it.denominator == 1 else f"{float(it):.2f}" for it in self]
+        return ":".join(words if self.tie else words[:1])
+
+
 class Choice(NamedTuple):
-    """A plan that is best where a change costs from `least` to `most` of what an element weighs,
-    None for any cost; with its changes, what is new, and what is dropped. If weights have two
-    numbers, a cost is one of the first, and the second numbers count next to nothing in it."""
+    """A plan that is best where a change costs from `least` to `most`, None for any cost; with its
+    changes, what is new, and what is dropped."""
 
     changes: int
     plan: Plan
-    least: Fraction
-    most: Fraction | None
+    least: Cost
+    most: Cost | None
     new: tuple[str, ...]
     dropped: tuple[str, ...]
 
 
 class _Point(NamedTuple):
-    """A plan by its gain, as one number, and its changes, but for those that all plans have."""
+    """A plan by both numbers of its weight, and its changes, but for those that all plans have."""
 
     gain: int
+    tie: int
     changes: int
     rung: Rung
+
+
+def _cost(left: _Point, right: _Point) -> Cost:
+    """What each change costs that the second plan saves against the first one."""
+    saved = left.changes - right.changes
+    return Cost(Fraction(left.gain - right.gain, saved), Fraction(left.tie - right.tie, saved))
 
 
 class _Hull:
@@ -71,25 +92,22 @@ class _Hull:
         self.gains, self.ties = wanted.aims()
         count = len(wanted.base.names)
         self.changes = [-1 if it in last else 1 for it in range(count)]
-        factor = 2 * sum(abs(it) for it in self.ties) + 1 if any(self.ties) else 1
-        #: What 1 of a gain is in these values, where ties are below it.
-        self.unit = factor
-        self.values = [factor * gain + tie for gain, tie in zip(self.gains, self.ties)]
         self.points: list[_Point] = []
 
     def best(self, *aims: Sequence[int]) -> _Point:
         """The best plan for these aims."""
         rung = self.wanted.solved(self.wanted.weights(*aims))
-        point = _Point(sum(self.values[it] for it in rung.members),
-                       sum(self.changes[it] for it in rung.members), rung)
+        gain, tie, changes = (sum(aim[it] for it in rung.members)
+                              for aim in (self.gains, self.ties, self.changes))
         if self.telling:
             self.telling(len(self.points))
-        return point
+        return _Point(gain, tie, changes, rung)
 
     def search(self) -> list[_Point]:
         """The plans from the greatest gain to the fewest changes."""
         kept = [-it for it in self.changes]
-        first, last = self.best(self.values, kept), self.best(kept, self.values)
+        first = self.best(self.gains, self.ties, kept)
+        last = self.best(kept, self.gains, self.ties)
         self.points = [first]
         self._between(first, last)
         return self.points
@@ -99,13 +117,16 @@ class _Hull:
         stack = [(first, last)]
         while stack:
             left, right = stack.pop()
-            loss, saved = left.gain - right.gain, left.changes - right.changes
+            saved = left.changes - right.changes
             if saved == 0:
                 continue
-            aim = [saved * gain - loss * change for gain, change in zip(self.values, self.changes)]
-            middle = self.best(aim)
-            more, fewer = middle.gain - left.gain, left.changes - middle.changes
-            if saved * more + loss * fewer > 0:
+            losses = left.gain - right.gain, left.tie - right.tie
+            aims = [[saved * value - loss * change for value, change in zip(values, self.changes)]
+                    for values, loss in zip((self.gains, self.ties), losses)]
+            middle = self.best(*aims)
+            more = middle.gain - left.gain, middle.tie - left.tie
+            fewer = left.changes - middle.changes
+            if tuple(saved * one + loss * fewer for one, loss in zip(more, losses)) > (0, 0):
                 stack += [(middle, right), (left, middle)]
             else:
                 self.points.append(right)
@@ -115,8 +136,7 @@ def _choices(wanted: Wanted, last: frozenset[int], telling: Telling | None) -> l
     """The plans that are best at some cost of a change, those of the greatest gain first."""
     base, hull = wanted.base, _Hull(wanted, last, telling)
     points = hull.search()
-    costs = [Fraction(one.gain - two.gain, (one.changes - two.changes) * hull.unit)
-             for one, two in zip(points, points[1:])]
+    costs = [_cost(one, two) for one, two in zip(points, points[1:])]
     wishes = base.wishes(last)
     found = []
     for place, point in enumerate(points):
@@ -124,7 +144,7 @@ def _choices(wanted: Wanted, last: frozenset[int], telling: Telling | None) -> l
         held = base.wishes(point.rung.members)
         new = [name for it, name in zip(sorted(point.rung.members), plan.members) if it not in last]
         found.append(Choice(len(wishes) + point.changes, plan,
-                            costs[place - 1] if place else Fraction(0),
+                            costs[place - 1] if place else Cost(Fraction(0), Fraction(0)),
                             costs[place] if place < len(costs) else None, tuple(new),
                             tuple(sorted(wishes - held))))
     return found
@@ -157,44 +177,41 @@ def _is_wish(wanted: Wanted, name: str) -> bool:
     return name in wanted.base.wishes(range(len(wanted.base.names)))
 
 
-def _names_in(text: str) -> list[str]:
-    """The names in a text, without a first line `4 for 25:`."""
-    return re.split(r"[\s,]+", re.sub(r"(?m)^\d+ for \S+:\s*$", "", text).strip())
-
-
-def _cost(cost: Fraction | None) -> str | None:
-    """A cost of a change as it is shown: whole, or with two places."""
-    if cost is None:
-        return None
-    return str(cost) if cost.denominator == 1 else f"{float(cost):.2f}"
-
-
-def _table(choices: Sequence[Choice], has_ties: bool) -> Table:
-    """A row for each plan. What a change costs is left out if weights have two numbers."""
-    heads: tuple[str, ...] = ("changes", "weight", "size")
-    costs: tuple[str, ...] = () if has_ties else ("best if a change costs", "to")
+def _table(choices: Sequence[Choice]) -> Table:
+    """A row for each plan."""
     rows: list[list[Any]] = []
     for it in choices:
-        shown = [] if has_ties else [_cost(it.least), _cost(it.most)]
-        rows.append([it.changes, str(it.plan.weight), it.plan.size, *shown, " ".join(it.new),
-                     " ".join(it.dropped)])
-    return Table((*heads, *costs, "new", "dropped"), rows)
+        most = None if it.most is None else str(it.most)
+        rows.append([it.changes, str(it.plan.weight), it.plan.size, str(it.least), most,
+                     " ".join(it.new), " ".join(it.dropped)])
+    return Table(("changes", "weight", "size", "best if a change costs", "to", "new", "dropped"),
+                 rows)
+
+
+def _last_of(path: str, wanted: Wanted) -> tuple[frozenset[int], list[str]]:
+    """The last plan of a file, and its names of no element. Raises InputFault if all are none."""
+    names = names_of_last(path, wanted.base.names)
+    last, unknown = _last_plan(wanted, names)
+    if unknown and not last:
+        raise InputFault(f"{path}: the description has none of its names, such as"
+                         f" {unknown[0][:60]}")
+    return last, unknown
 
 
 def main(words: Sequence[str]) -> int:
     """Runs the command."""
     parser = parser_of("few-changes", ABOUT, EXAMPLES)
     add_words(parser)
-    parser.add_argument("last", metavar="LAST", help="the names of the last plan")
+    parser.add_argument("last", metavar="LAST", help="the last plan: its names, or a roster as CSV")
     given = parser.parse_args(list(words))
     wanted = wanted_of(given)
-    last, unknown = _last_plan(wanted, filter(None, _names_in(read_text(given.last))))
+    last, unknown = _last_of(given.last, wanted)
     with Progress("few-changes") as progress:
         try:
             choices = _choices(wanted, last, lambda found: progress.tell(f"{found} plans found"))
         except NoPlan as error:
             return no_plan(error)
-    table = _table(choices, any(wanted.aims()[1]))
+    table = _table(choices)
     if given.format == "table":
         gone = f"Not in the description: {' '.join(unknown)}.\n\n" if unknown else ""
         write(gone + table.text())

@@ -14,6 +14,7 @@ import pathlib
 import sys
 import tempfile
 import unittest
+from fractions import Fraction
 
 HERE = pathlib.Path(__file__).resolve().parent
 TOP = HERE.parent.parent
@@ -275,6 +276,31 @@ class 1 Ada.Mon Ben.Mon\npartition 2\nclass 1 Ada.Mon\nclass 1 Ben.Mon\nend\n"""
         last = self.file("last.txt", "1 for 4:\nBen.Mon\nGone.Sun\n")
         status, text, _ = ran("few-changes", self.wishes, last)
         self.assertEqual((status, text.splitlines()[0]), (0, "Not in the description: Gone.Sun."))
+
+    def test_a_cost_has_two_numbers_if_weights_have(self):
+        last = self.file("last.txt", "Ben.Mon_early Ben.Mon_early")
+        rows = json.loads(ran("few-changes", self.file("n.txt", NEEDS), last, "--format",
+                              "json")[1])["plans"]
+        self.assertEqual([(row["changes"], row["weight"], row["best if a change costs"], row["to"])
+                          for row in rows], [(1, "2:11", "0", "1:9"), (0, "1:2", "1:9", None)])
+        self.assertEqual(str(few_changes.Cost(Fraction(1, 2), Fraction(-5, 3))), "0.50:-1.67")
+
+    def test_the_last_plan_may_be_a_roster(self):
+        table = "person;shift;gain;granted\nBen;Mon early;2;yes\nAda May;Mon late;9;no\n"
+        for name, content in (("r.csv", table), ("r16.csv", table.encode("utf-16"))):
+            status, text, _ = ran("few-changes", self.file("n.txt", NEEDS), self.file(name, content))
+            self.assertEqual((status, text.splitlines()[-1].split()[:2]), (0, ["0", "1:2"]))
+        for last, told in ((table.replace("Ben", "李娜"), "`roster --last` takes this roster"),
+                           (table.replace("Ben", "Zoe"), "none of its names, such as Zoe.Mon_early"),
+                           (table.replace("yes", "perhaps"), "granted is yes or no"),
+                           ("", "there is nothing in it"), ("<svg>", "such as <svg>"),
+                           ("Ben.Mon_early\n" * 20_000, "too long for the names of a plan")):
+            status, text, notes = ran("few-changes", self.file("n.txt", NEEDS),
+                                      self.file("l.txt", last))
+            self.assertEqual((status, text), (2, ""))
+            self.assertIn(told, notes)
+        status, _, _ = ran("few-changes", self.wishes, self.file("l.txt", "0 for 0:\n"))
+        self.assertEqual(status, 0)
 
     def test_what_is_not_taken_is_told(self):
         cases = [(["plan", EXAMPLES / "towns.txt"], "the form is `rooted"),

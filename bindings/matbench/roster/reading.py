@@ -21,7 +21,7 @@ LIMIT_COLUMNS = ("name", "most"), ("least", "kind", "week", "day")
 MOST = 10_000
 
 
-def _titles(rows: Iterable[Row]) -> dict[tuple[str, str, str], str]:
+def titles_of(rows: Iterable[Row]) -> dict[tuple[str, str, str], str]:
     """What the shifts are called, by week, day and name: the name alone, or with the day, or with
     both in front, so that no two are called the same."""
     keys = list(dict.fromkeys((row["week"], row["day"], row["shift"]) for row in rows))
@@ -59,7 +59,7 @@ def _wishes(sheet: Sheet) -> list[Wish]:
     sheet.hold_to(*WISH_COLUMNS)
     _hold_to_weeks(sheet)
     _hold_to_single_wishes(sheet)
-    titles, gains = _titles(sheet.rows), numbers_of(sheet.rows, "gain")
+    titles, gains = titles_of(sheet.rows), numbers_of(sheet.rows, "gain")
     found = []
     for row, gain in zip(sheet.rows, gains):
         key = (row["week"], row["day"], row["shift"])
