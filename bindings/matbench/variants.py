@@ -5,6 +5,8 @@ solves. Its elements are its wishes, and X, X.must, X.may and X.more are one wis
 """
 from __future__ import annotations
 
+import os
+import re
 from dataclasses import dataclass
 from typing import TYPE_CHECKING, NamedTuple
 
@@ -96,6 +98,21 @@ class _Reader:
                                      tuple(map(int, members)), is_plain))
 
 
+def canonical_lines(problem: Problem, *forms: str) -> tuple[Description, list[str]]:
+    """A description, and the lines of its canonical text. Raises InputFault if it is empty, or has
+    none of these forms, in which capitals stand for numbers, and what the program raises for a
+    faulty one."""
+    described = Description.of(problem)
+    if not described.text.strip():
+        name = f"{problem}: " if isinstance(problem, os.PathLike) else ""
+        raise InputFault(f"{name}there is nothing in it")
+    lines = show(described).splitlines()
+    if not any(re.fullmatch(re.sub("[A-Z]", "[0-9]+", form), lines[1]) for form in forms):
+        wanted = " or ".join(f"`{form}`" for form in forms)
+        raise InputFault(f"the form is `{lines[1]}`, and has to be {wanted}")
+    return described, lines
+
+
 @dataclass(frozen=True)
 class Base:
     """A problem in parts. `lines` is its canonical text, `rules` where its matroids begin, and
@@ -112,11 +129,8 @@ class Base:
     def of(cls, problem: Problem) -> Base:
         """The parts of a description. Raises InputFault if it has another form, and what the
         program raises for a faulty one."""
-        described = Description.of(problem)
-        lines = show(described).splitlines()
-        form, count, *more = lines[1].split()
-        if form != "pair" and (form, more) != ("list", ["1"]):
-            raise InputFault(f"the form is `{lines[1]}`, and has to be `pair N` or `list N 1`")
+        described, lines = canonical_lines(problem, "pair N", "list N 1")
+        form, count = lines[1].split()[:2]
         reader = _Reader(lines, int(count))
         rules, at = [], 3
         for rule in range(2 if form == "pair" else 1):

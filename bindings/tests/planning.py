@@ -8,9 +8,11 @@ crates/mat_main/out/mat_main.
 import contextlib
 import csv
 import io
+import itertools
 import json
 import os
 import pathlib
+import random
 import sys
 import tempfile
 import unittest
@@ -317,6 +319,91 @@ class 1 Ada.Mon Ben.Mon\npartition 2\nclass 1 Ada.Mon\nclass 1 Ben.Mon\nend\n"""
                 self.assertIn(told, notes)
         with self.assertRaises(InputFault):
             plans.best_plan(WISHES.replace("5 4 3 3", "5:3 4 3 900000000000:7"), must=["Ada.Mon"])
+
+
+def spans(arcs, root, places, is_both_ways):
+    """Whether the root reaches all places along these arcs, as many as it needs at least."""
+    if len(arcs) != places - 1:
+        return False
+    reached = {root}
+    for _ in range(places):
+        for tail, head, _ in arcs:
+            if tail in reached:
+                reached.add(head)
+            elif is_both_ways and head in reached:
+                reached.add(tail)
+    return len(reached) == places
+
+
+class Supplied(InFolder):
+    """The command supplies."""
+
+    def least(self, arcs, places, is_both_ways):
+        """The least cost of two supplies that share no arc, by trying all, or None."""
+        trees = [set(it) for it in itertools.combinations(range(len(arcs)), places - 1)
+                 if spans([arcs[at] for at in it], 0, places, is_both_ways)]
+        return min((sum(arcs[it][2] for it in one | other) for one in trees for other in trees
+                    if not one & other), default=None)
+
+    def test_two_supplies_cost_least(self):
+        numbers, seen = random.Random(4), set()
+        for _ in range(8):
+            places = numbers.randint(2, 4)
+            arcs = [(*numbers.sample(range(places), 2), numbers.randint(0, 9))
+                    for _ in range(numbers.randint(4, 9))]
+            table = "link,from,to,cost\n" + "".join(
+                f"l{at},{tail},{head},{cost}\n" for at, (tail, head, cost) in enumerate(arcs))
+            if not any(0 in it[:2] for it in arcs):
+                continue
+            there = len({0, *(end for it in arcs for end in it[:2])})
+            plain = "".join(f"arc {tail} {head} {cost}\n" for tail, head, cost in arcs)
+            plain = f"matroids 1\nrooted {places} {len(arcs)} 0\n{plain}end\n"
+            cases = [(plain, [], arcs, False, places)]
+            if there == places:
+                text = ran("links", self.file("l.csv", table), "0")[1]
+                both = arcs + [(head, tail, cost) for tail, head, cost in arcs]
+                cases += [(text, [], arcs, True, places), (text, ["--both-ways"], both, False, places)]
+            for text, words, given, is_both_ways, count in cases:
+                status, told, _ = ran("supplies", self.file("n.txt", text), *words, "--format",
+                                      "json", "--proof", self.folder / "proof")
+                least = self.least(given, count, is_both_ways)
+                seen.add((is_both_ways, least is None))
+                self.assertEqual(status, 1 if least is None else 0)
+                if least is not None:
+                    self.assertEqual(json.loads(told)["cost"], str(least))
+                    self.hold_supplies(json.loads(told)["arcs"], count, least)
+                for name in ("supplies", "split"):
+                    path = self.folder / "proof" / f"{name}.txt"
+                    self.assertEqual(path.exists(), name == "supplies" or least is not None)
+                    if path.exists():
+                        self.assertTrue(matbench.check(path, path.with_suffix(".answer")))
+        self.assertEqual(len(seen), 4)
+
+    def hold_supplies(self, rows, places, least):
+        """Both supplies reach all places along the arcs as they are told, and share none."""
+        self.assertEqual(len({row.get("link", row.get("arc")) for row in rows}), len(rows))
+        self.assertEqual(sum(int(row["cost"]) for row in rows), least)
+        for number in (1, 2):
+            arcs = [(row["from"], row["to"], 0) for row in rows if row["supply"] == number]
+            self.assertTrue(spans(arcs, "0", places, False))
+
+    def test_the_recipe_makes_the_same_description(self):
+        text = ran("supplies", EXAMPLES / "supply.txt", "--description")[1]
+        self.assertEqual(text, (EXAMPLES / "two_supplies.txt").read_text())
+
+    def test_what_is_not_taken_is_told(self):
+        links = ran("links", EXAMPLES / "islands.csv", "Ash")[1]
+        mixed = links.replace("rail.back", "rail2.back")
+        for text, words, told in ((links, ["--number", "65"], "from 1 to 64, and not 65"),
+                                  (mixed, [], "rail.there is not: --both-ways"),
+                                  ("", [], "there is nothing in it"), ("x\n", [], "description 3 UnknownWord"),
+                                  (WISHES, [], "and has to be `rooted V E R`")):
+            status, text, notes = ran("supplies", self.file("n.txt", text), *words)
+            self.assertEqual((status, text, notes.count("\n")), (2, "", 1))
+            self.assertIn(told, notes)
+        self.assertEqual(ran("supplies", self.file("n.txt", mixed), "--both-ways")[0], 0)
+        status, text, _ = ran("supplies", self.file("n.txt", links), "--number", "3")
+        self.assertEqual((status, text), (1, "NONE: there are no 3 supplies that share no link.\n"))
 
 
 if __name__ == "__main__":
