@@ -3,7 +3,7 @@
 the top of the repository.
 
 Draws small tables of wishes and limits, with and without the columns day, week, kind, must, never,
-last and least; makes a roster of each, and compares what it meets, its gain, what it keeps of last
+last, hours and least; makes a roster of each, and compares what it meets, its gain, what it keeps of last
 time and what one more place in each limit brings with what is found by trying all plans. Two weeks of more than 500 elements are solved
 together. Then it spoils a table in each way of a list, and expects that the package says what is
 wrong; saves it in other ways, which have to give the same description; and has the commands read
@@ -42,6 +42,8 @@ SPOILT = [('gain', 'Gains', 'here it has person, day, shift, gains'),
           ('Ben,1,', 'Ben,,', 'there is no number for Ben'),
           ('Ben,1,', 'Ben,one,', "not 'one'"),
           ('Ben,1,', 'Ben,1,1', 'a least number is for shifts alone'),
+          ('least', 'hours', 'hours are for people alone, and Mon early is a shift'),
+          ('gain', 'hours', 'here it has person, day, shift, hours'),
           ('early,2,1', 'early,2,3', 'at least 3 are more than at most 2'),
           (',5', ',' + '5' * 5000, 'gain is a number'),
           (',5', ',1000000000001', 'is too large'),
@@ -77,12 +79,14 @@ def drawn(numbers):
     people, shifts = 'ABCD'[: numbers.randint(1, 4)], SHIFTS[: numbers.randint(1, 5)]
     pairs = list(itertools.product(people, shifts))
     marks = [it for it in ('kind', 'must', 'never', 'last') if numbers.random() < 0.4]
+    has_hours = numbers.random() < 0.25
     wishes = []
     for person, (week, day, shift) in numbers.sample(pairs, numbers.randint(1, min(9, len(pairs)))):
         row = {'person': person, 'week': week, 'day': day, 'shift': shift,
                'gain': numbers.choice([numbers.randint(-3, 9), numbers.randint(0, 40) / 4])}
         row.update((it, numbers.choice(['yes', ''])) for it in marks)
         row['must'] = '' if row.get('never') else row.get('must', '')
+        row.update({'hours': numbers.choice([4, 7.5, 8])} if has_hours else {})
         row['kind'] = numbers.choice(['', 'night', 'senior']) if 'kind' in marks else ''
         wishes.append(row)
     limits = []
@@ -98,7 +102,8 @@ def drawn(numbers):
                            'least': numbers.choice([0, most]) if len(kinds) == 1 else ''})
     for name in sorted({it['person'] for it in wishes}):
         limits.append({'name': name, 'most': numbers.randint(0, 4),
-                       'week': numbers.choice(['', 1, 2]), 'day': numbers.choice(['', '', 2])})
+                       'week': numbers.choice(['', 1, 2]), 'day': numbers.choice(['', '', 2]),
+                       **({'hours': numbers.choice(['', 8, 15, 15.5])} if has_hours else {})})
         if 'kind' in marks and numbers.random() < 0.7:
             limits.append({'name': name, 'kind': 'night', 'most': numbers.randint(0, 2)})
     return wishes, limits
@@ -111,6 +116,8 @@ def keeps(plan, limits, raised=('', '', '', None)):
         own = [it for it in plan if limit['name'] in (it['person'], it['shift'])
                and limit.get('kind', '') in ('', it['kind'])]
         by_person = any(it['person'] == limit['name'] for it in own)
+        if limit.get('hours', '') != '' and sum(it['hours'] for it in own) > limit['hours']:
+            return False
         counts = [('most', lambda it: it['person'] if by_person else (it['week'], it['day'])),
                   ('week', lambda it: it['week']), ('day', lambda it: (it['week'], it['day']))]
         for column, key in counts:
@@ -207,6 +214,20 @@ def wrong_changes(tables, found, valued, limits):
             yield f'{what}: {it.new} and {it.dropped} do not bring {it.gain}'
 
 
+def wrong_seconds(found, valued, wishes, limits):
+    """What is said wrong of the second best roster."""
+    from matbench.roster import second_rosters
+    if not found.answers:
+        return
+    granted = [wishes[it] for it in found.granted]
+    right = max((value for plan, value in valued if plan != granted and keeps(plan, limits)),
+                default=None)
+    others = [[wishes[at] for at in it.granted] for it in second_rosters(found)]
+    told = [worth(plan, wishes, limits) if keeps(plan, limits) else 'no plan' for plan in others]
+    if told != ([] if right is None else [right]) or granted in others:
+        yield f'{told} is the second best, and not {right}'
+
+
 def wrong_rows(found, valued, limits):
     """What `one-more` says wrong of the shifts in the description of a roster without kinds, wishes
     that have to be granted, and a last roster."""
@@ -252,6 +273,7 @@ def is_right(tables, numbers):
         return None
     valued = [(plan, worth(plan, wishes, limits)) for plan in map(list, all_of(free))]
     for what in [*wrong_changes(tables, found, valued, limits),
+                 *wrong_seconds(found, valued, wishes, limits),
                  *wrong_rows(found, valued, limits)]:
         return tell(wishes, limits, what)
     if there == best and keeps(granted, limits) and is_told and all(it in free for it in granted):

@@ -14,7 +14,7 @@ from matbench.spreadsheets import read_sheet, whole_of
 if TYPE_CHECKING:
     from collections.abc import Sequence
 
-    from matbench.spreadsheets import Source
+    from matbench.spreadsheets import Row, Sheet, Source
 
 ABOUT = """\
 Writes the description of a network in which each link goes in both directions, for
@@ -24,6 +24,7 @@ LINKS is a table with the columns link, from and to, and a line for each link. I
 column cost, a whole number from 0, which is that of both directions; without it each cost is 0.
 ROOT is one of the places. The link ferry becomes the arcs ferry.there and ferry.back. Names get _
 for a space, and where they are not of ASCII or too long a letter and a number; a note says which.
+`python3 -m matbench supplies` finds the cheapest two supplies in such a network.
 """
 EXAMPLES = """\
 example:
@@ -34,6 +35,13 @@ example:
 MOST_OF_LINK, MOST_OF_PLACE = 26, 32
 
 
+def _missing(sheet: Sheet, row: Row, column: str) -> InputFault:
+    """The fault of a line without a cell."""
+    cells, heads = len(row.cells), len(sheet.heads)
+    short = f": the line has {cells} cells, and the first line {heads}" if cells < heads else ""
+    return row.fault(f"there is no {column}{short}")
+
+
 def _rows(source: Source) -> list[tuple[str, str, str, int]]:
     """The links of a table: the name, the two places and the cost."""
     sheet = read_sheet(source, "the links")
@@ -42,10 +50,10 @@ def _rows(source: Source) -> list[tuple[str, str, str, int]]:
     for row in sheet.rows:
         for column in ("link", "from", "to"):
             if not row[column]:
-                raise row.fault(f"there is no {column}")
+                raise _missing(sheet, row, column)
         cost = whole_of(row, "cost", 10 ** 12)
         if cost is None and "cost" in sheet.heads:
-            raise row.fault("there is no cost")
+            raise _missing(sheet, row, "cost")
         found.append((row["link"], row["from"], row["to"], cost or 0))
     for name, count in collections.Counter(it[0] for it in found).items():
         if count > 1:

@@ -132,6 +132,10 @@ def _problem(path: str) -> Description:
     except ValueError:
         raise InputFault(f"{path}: this is no description: it has signs that are none of ASCII") \
             from None
+    if not text.strip():
+        raise InputFault(f"{path}: there is nothing in it")
+    if not text.startswith(b"matroids "):
+        raise InputFault(f"{path}: this is no description: its first line is none")
     if found.elements is None:
         raise InputFault(f"{path}: the description has no names; `matbench convert {path}` writes"
                          " it with names")

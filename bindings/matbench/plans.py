@@ -22,6 +22,8 @@ if TYPE_CHECKING:
 ABOUT = """\
 The best plan of a description: for each number of elements the best one is known, and the best of
 all is printed, or that of --size. With --must an element is in the plan, with --must-not it is not.
+If larger plans weigh less, as always where weights are costs, the best one of the largest size is
+told too.
 
 FILE is a description of the form `pair`, or `list` with one matroid. An element is called by its
 name, or by its number if it has none; X.must, X.may and X.more are copies of the wish X."""
@@ -78,6 +80,13 @@ class Wanted:
         text = self.base.text(weights, self.must_not | frozenset(without), caps)
         return self.read(text, certificate_of(self.base.command, text))
 
+    def last(self, certificate: str) -> Rung:
+        """The largest rung of an answer that has all that must be in the plan, of which there is
+        one."""
+        must = self.base.wishes(self.must)
+        return next(it for it in reversed(rungs_of(certificate))
+                    if self.base.wishes(it.members & self.must) == must)
+
     def read(self, text: str, certificate: str) -> Rung:
         """The best rung of an answer. Raises NoPlan."""
         rungs = rungs_of(certificate)
@@ -133,20 +142,35 @@ def record_of(plan: Plan) -> dict[str, Any]:
     return {"size": plan.size, "weight": str(plan.weight), "elements": list(plan.members)}
 
 
+def _told_largest(best: Plan, largest: Plan) -> str:
+    """The heaviest plan of the largest size, if it is larger than the best one."""
+    if largest.size <= best.size:
+        return ""
+    return (f"LARGEST: {largest.size} elements, weight {largest.weight}:"
+            f" {' '.join(largest.members)}.\n")
+
+
 def main(words: Sequence[str]) -> int:
     """Runs the command."""
     parser = parser_of("plan", ABOUT, EXAMPLES)
     add_words(parser)
     given = parser.parse_args(list(words))
     wanted = wanted_of(given)
+    base = wanted.base
+    text = base.text(wanted.weights(*wanted.aims()), wanted.must_not)
+    certificate = certificate_of(base.command, text)
     try:
-        plan = wanted.base.plan(wanted.solved(wanted.weights(*wanted.aims())).members)
+        plan = base.plan(wanted.read(text, certificate).members)
     except NoPlan as error:
         return no_plan(error)
-    weights = dict(zip(wanted.base.names, map(str, wanted.base.weights)))
+    largest = plan if given.size is not None else base.plan(wanted.last(certificate).members)
+    weights = dict(zip(base.names, map(str, base.weights)))
     table = Table(("element", "weight"), [(name, weights[name]) for name in plan.members])
     if given.format == "table":
-        write(f"BEST: {plan.size} elements, weight {plan.weight}.\n\n{table.text()}")
+        write(f"BEST: {plan.size} elements, weight {plan.weight}.\n{_told_largest(plan, largest)}\n"
+              f"{table.text()}")
+    elif given.format == "json":
+        write(json_of({**record_of(plan), "largest": record_of(largest)}))
     else:
-        write(json_of(record_of(plan)) if given.format == "json" else table.csv())
+        write(table.csv())
     return DONE

@@ -19,10 +19,11 @@ from matbench.roster.raising import Change, what_if
 from matbench.roster.reading import read_request, with_last
 from matbench.roster.showing import (changes_table, json_text, people_table, shifts_table, told,
                                      wishes_table, words)
+from matbench.roster.second import second_rosters
 from matbench.roster.solving import Roster, solve
 from matbench.roster.writing import write_request
 
 __all__ = ["Change", "InputFault", "PersonLimit", "Request", "Roster", "Shift", "ShiftLimit",
            "Wish", "changes_table", "json_text", "people_table", "picture", "read_request",
-           "shifts_table", "solve", "told", "what_if", "wishes_table", "with_last", "words",
+           "second_rosters", "shifts_table", "solve", "told", "what_if", "wishes_table", "with_last", "words",
            "write_request"]

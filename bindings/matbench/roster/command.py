@@ -2,6 +2,7 @@
 from __future__ import annotations
 
 import sys
+from fractions import Fraction
 from pathlib import Path
 from typing import TYPE_CHECKING
 
@@ -14,7 +15,8 @@ from matbench.roster.folders import elements_table, how_to_check
 from matbench.roster.picture import picture
 from matbench.roster.raising import what_if
 from matbench.roster.reading import read_request, with_last
-from matbench.roster.showing import json_text, told, wishes_table, words
+from matbench.roster.showing import json_text, second_text, spelled, told, wishes_table, words
+from matbench.roster.second import second_rosters
 from matbench.roster.solving import solve
 from matbench.roster.writing import write_request
 from matbench.tables import Table
@@ -37,6 +39,7 @@ WISHES has a line for each wish, with the columns
 and it may have the columns
   day             the day of the shift; nobody works twice on a day, unless a limit says otherwise
   week            the week of the shift
+  hours           how many hours the shift takes
   kind            a word for limits within shifts and of people, as night or senior
   must            yes: the wish has to be granted, if any roster can
   never           yes: the wish must not be granted
@@ -48,12 +51,14 @@ LIMITS has a line for each shift and each person, with the columns
 and it may have the columns
   least           how many a shift needs, if it can have them
   week, day       how often the person works at most in each week and on each day
+  hours           how many hours the person works at most in all
   kind            the line is for wishes of this kind alone: at most, or at least, so many seniors
                   in a shift; at most so many nights of a person
 
 More than 500 elements (a wish of a shift with a least number is two) need the column week; then,
-and where limits cross (nights of a person over weeks), the roster is the best that is found within
---seconds, and it is said whether it is proved best, or how far a better one may be above it.
+and where limits cross (nights of a person over weeks) or hours are limited, the roster is the best
+that is found within --seconds, and it is said whether it is proved best, or how far a better one
+may be above it.
 
 Tables are read as spreadsheets save them (CSV in UTF-8, UTF-16 or Western Windows; commas,
 semicolons or tabs; sep=; in front). Names may be in any script. Yes is x, yes, ja, oui, si, 1 and
@@ -81,6 +86,8 @@ def _parser() -> argparse.ArgumentParser:
                         help="a roster of last time, as --format csv writes it")
     parser.add_argument("--one-more", action="store_true",
                         help="tell too what one more place in each limit brings, and who works then")
+    parser.add_argument("--second-best", action="store_true",
+                        help="tell too the best roster that differs, and by what")
     parser.add_argument("--tell", action="store_true",
                         help="tell too why no roster is better, in words that can be counted after")
     parser.add_argument("--format", choices=["table", "csv", "json"], default="table",
@@ -99,7 +106,9 @@ def _parser() -> argparse.ArgumentParser:
 def _description(written: Written) -> str:
     """The description of a request that is one."""
     if len(written.texts) > 1 or written.further:
-        raise InputFault("this request is no single description: --proof writes what it is made of")
+        raise InputFault("this request is no single description: --proof FOLDER writes what it is"
+                         " made of, and `python3 -m matbench limits FOLDER/roster*.txt"
+                         " FOLDER/limits.csv` plans it")
     return written.texts[0]
 
 
@@ -117,23 +126,29 @@ def _write_proof(folder: str, roster: Roster) -> None:
     if roster.outcome is not None:
         write(further_table(roster).csv(), f"{folder}/limits.csv")
         write_proof(roster.outcome, folder)
+        texts = " ".join(f"{folder}/roster{it}.txt" for it in range(len(roster.written.texts)))
+        print(f"matbench roster: the proof is checked by python3 -m matbench limits {texts}"
+              f" {folder}/limits.csv --verify {folder}", file=sys.stderr)
 
 
 def further_table(roster: Roster) -> Table:
     """The further limits of a roster, as `python3 -m matbench limits` takes them."""
     elements = roster.written.elements
-    rows = [[it.name, it.most, elements[each].name, 1]
+    rows = [[it.name, spelled(Fraction(it.most, it.scale)), elements[each].name,
+             spelled(Fraction(it.amount(each), it.scale))]
             for it in roster.written.further for each in sorted(it.members)]
     return Table(["limit", "most", "element", "amount"], rows)
 
 
-def _text(roster: Roster, changes: list[Change] | None, options: argparse.Namespace) -> str:
+def _text(roster: Roster, changes: list[Change] | None, others: list[Roster] | None,
+          options: argparse.Namespace) -> str:
     """What is printed."""
     if options.format == "csv":
         return wishes_table(roster).csv()
     if options.format == "json":
-        return json_text(roster, changes)
-    return words(roster, changes) + ("\n" + told(roster) if options.tell else "")
+        return json_text(roster, changes, others)
+    second = "" if others is None else "\n" + second_text(roster, others)
+    return words(roster, changes) + second + ("\n" + told(roster) if options.tell else "")
 
 
 def _request(options: argparse.Namespace) -> Request:
@@ -152,7 +167,8 @@ def main(given: Sequence[str]) -> int:
     with Progress("roster") as progress:
         roster = solve(request, options.size, progress, options.seconds)
         changes = what_if(roster, progress) if options.one_more else None
-    write(_text(roster, changes, options), options.output)
+        others = second_rosters(roster, progress) if options.second_best else None
+    write(_text(roster, changes, others, options), options.output)
     if options.picture:
         write(picture(roster), options.picture)
     if options.proof:

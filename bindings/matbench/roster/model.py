@@ -2,10 +2,7 @@
 from __future__ import annotations
 
 from dataclasses import dataclass, field
-from typing import TYPE_CHECKING
-
-if TYPE_CHECKING:
-    from fractions import Fraction
+from fractions import Fraction
 
 
 @dataclass(frozen=True)
@@ -23,7 +20,8 @@ class Shift:
 class Wish:
     """That a person works in a shift, with what it gains. `kind` is a word for limits within a
     shift or of a person, as night or senior. `must`: it has to be granted; `never`: it must not be;
-    `last`: it was granted last time, None where nothing is said of last time."""
+    `last`: it was granted last time, None where nothing is said of last time. It takes so many
+    `hours`."""
 
     person: str
     shift: Shift
@@ -32,6 +30,7 @@ class Wish:
     must: bool = False
     never: bool = False
     last: bool | None = None
+    hours: Fraction = Fraction(0)
 
 
 @dataclass(frozen=True)
@@ -52,12 +51,14 @@ class ShiftLimit:
 @dataclass(frozen=True)
 class PersonLimit:
     """How often a person works: at most `most` times, `week` times in each week and `day` times on
-    each day (None for no limit), and so often in shifts of some kinds."""
+    each day (None for no limit), and so often in shifts of some kinds; and at most so many hours in
+    all."""
 
     most: int
     week: int | None = None
     day: int | None = None
     kinds: dict[str, int] = field(default_factory=dict)
+    hours: Fraction | None = None
 
 
 @dataclass(frozen=True)
@@ -81,3 +82,8 @@ class Request:
     def has_last(self) -> bool:
         """Whether the wishes say what was granted last time."""
         return any(it.last is not None for it in self.wishes)
+
+    @property
+    def has_hours(self) -> bool:
+        """Whether hours are limited."""
+        return any(it.hours is not None for it in self.people.values())

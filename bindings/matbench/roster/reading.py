@@ -3,6 +3,7 @@ from __future__ import annotations
 
 import collections
 import dataclasses
+from fractions import Fraction
 from typing import TYPE_CHECKING
 
 from matbench.faults import InputFault
@@ -10,13 +11,14 @@ from matbench.roster.model import PersonLimit, Request, Shift, ShiftLimit, Wish
 from matbench.spreadsheets import is_yes, numbers_of, read_sheet, scale_of, whole_of
 
 if TYPE_CHECKING:
-    from collections.abc import Iterable
+    from collections.abc import Collection, Iterable, Sequence
 
     from matbench.spreadsheets import Row, Sheet, Source
 
 #: The columns of both tables: those that are needed, and those that may be there.
-WISH_COLUMNS = ("person", "shift", "gain"), ("day", "week", "kind", "must", "never", "last")
-LIMIT_COLUMNS = ("name", "most"), ("least", "kind", "week", "day")
+WISH_COLUMNS = ("person", "shift", "gain"), ("day", "week", "hours", "kind", "must",
+                                               "never", "last")
+LIMIT_COLUMNS = ("name", "most"), ("least", "kind", "week", "day", "hours")
 #: A limit above this is none.
 MOST = 10_000
 
@@ -54,21 +56,31 @@ def _hold_to_single_wishes(sheet: Sheet) -> None:
         seen[key] = row
 
 
+def _hours_of(rows: Sequence[Row]) -> list[Fraction]:
+    """The hours of lines, which are from 0."""
+    found = numbers_of(rows, "hours")
+    for row, hours in zip(rows, found):
+        if hours < 0:
+            raise row.fault("hours are from 0")
+    return found
+
+
 def _wishes(sheet: Sheet) -> list[Wish]:
     """The wishes of a table."""
     sheet.hold_to(*WISH_COLUMNS)
     _hold_to_weeks(sheet)
     _hold_to_single_wishes(sheet)
     titles, gains = titles_of(sheet.rows), numbers_of(sheet.rows, "gain")
+    hours = _hours_of(sheet.rows) if "hours" in sheet.heads else [Fraction(0)] * len(gains)
     found = []
-    for row, gain in zip(sheet.rows, gains):
+    for row, gain, each in zip(sheet.rows, gains, hours):
         key = (row["week"], row["day"], row["shift"])
         must, never = is_yes(row, "must"), is_yes(row, "never")
         if must and never:
             raise row.fault("the wish must be granted, and must not")
         last = is_yes(row, "last") if "last" in sheet.heads else None
         found.append(Wish(row["person"], Shift(*key, titles[key]), gain, row["kind"], must, never,
-                          last))
+                          last, each))
     return found
 
 
@@ -117,6 +129,8 @@ def _limit_of_shift(rows: dict[str, Row]) -> ShiftLimit:
         for column in ("week", "day"):
             if whole_of(row, column, MOST) is not None:
                 raise row.fault(f"{column} is for people alone, and {row['name']} is a shift")
+        if row["hours"]:
+            raise row.fault(f"hours are for people alone, and {row['name']} is a shift")
         if kind:
             kinds[kind] = whole_of(row, "most", MOST), whole_of(row, "least", MOST) or 0
             if kinds[kind][0] is not None and kinds[kind][1] > (kinds[kind][0] or 0):
@@ -131,17 +145,21 @@ def _limit_of_shift(rows: dict[str, Row]) -> ShiftLimit:
     return found
 
 
-def _limit_of_person(rows: dict[str, Row], has_days: bool) -> PersonLimit:
-    """The limit of a person, which is one shift a day where days are known and no number says
-    otherwise."""
-    for row in rows.values():
+def _limit_of_person(rows: dict[str, Row], heads: Collection[str]) -> PersonLimit:
+    """The limit of a person, which is one shift a day where days are among the columns of the
+    wishes and no number says otherwise."""
+    for kind, row in rows.items():
+        if row["hours"] and (kind or "hours" not in heads):
+            raise row.fault("hours are for all kinds together: leave them out in the lines of a"
+                            " kind" if kind else "the wishes have no column hours")
         if whole_of(row, "least", MOST):
             raise row.fault(f"a least number is for shifts alone, and {row['name']} is a person")
     whole = rows[""]
     day = whole_of(whole, "day", MOST)
+    hours = _hours_of([whole])[0] if whole["hours"] else None
     return PersonLimit(_most_of(whole), whole_of(whole, "week", MOST),
-                       1 if day is None and has_days else day,
-                       {kind: _most_of(row) for kind, row in rows.items() if kind})
+                       1 if day is None and "day" in heads else day,
+                       {kind: _most_of(row) for kind, row in rows.items() if kind}, hours)
 
 
 def _unwished(limits: _Limits) -> dict[Shift, ShiftLimit]:
@@ -169,7 +187,7 @@ def read_request(wishes: Source, limits: Source) -> Request:
     shifts = list(dict.fromkeys(it.shift for it in found))
     people = list(dict.fromkeys(it.person for it in found))
     _hold_to_known_names(lines, people, shifts)
-    of_people = {it: _limit_of_person(lines.of("the person", it), "day" in sheet.heads)
+    of_people = {it: _limit_of_person(lines.of("the person", it), sheet.heads)
                  for it in people}
     of_shifts = {it: _limit_of_shift(lines.of("the shift", it.title, it.name)) for it in shifts}
     of_shifts.update(_unwished(lines))

@@ -61,14 +61,18 @@ def _told_gap(roster: Roster) -> str:
 
 
 def people_table(roster: Roster) -> Table:
-    """A line for each person: how often they work, of how many at most, and when."""
-    rows = []
+    """A line for each person: how often they work, of how many at most, how many hours, and when."""
+    rows: list[list[Any]] = []
+    has_hours = roster.request.has_hours
     for person, limit in roster.request.people.items():
         own = [it for it in roster.wishes if it.person == person]
-        rows.append([person, len(own), limit.most,
+        hours = number_of(sum((it.hours for it in own), Fraction(0)))
+        most = None if limit.hours is None else number_of(limit.hours)
+        rows.append([person, len(own), limit.most, *([hours, most] if has_hours else []),
                      number_of(sum((it.gain for it in own), Fraction(0))),
                      ", ".join(it.shift.title for it in own)])
-    return Table(["person", "shifts", "most", "gain", "granted"], rows)
+    hours_heads = ["hours", "most hours"] if has_hours else []
+    return Table(["person", "shifts", "most", *hours_heads, "gain", "granted"], rows)
 
 
 def shifts_table(roster: Roster) -> Table:
@@ -82,7 +86,7 @@ def shifts_table(roster: Roster) -> Table:
 
 
 def _listed(wishes: Iterable[Wish]) -> str:
-    """Wishes in a cell."""
+    """Wishes in a cell, or in a line."""
     return "; ".join(f"{it.person}, {it.shift.title}" for it in wishes)
 
 
@@ -128,7 +132,37 @@ def wishes_table(roster: Roster) -> Table:
     return Table(heads, [[it[head] for head in heads] for it in records])
 
 
-def json_text(roster: Roster, changes: Sequence[Change] | None = None) -> str:
+def second_text(roster: Roster, others: Sequence[Roster]) -> str:
+    """The second best roster as text, by what it differs, if there is one among others."""
+    if not others:
+        return "There is no second roster.\n"
+    lines = []
+    for it in others:
+        less = "as good as the best" if it.gain == roster.gain else \
+            f"{spelled(abs(roster.gain - it.gain))} {'less' if it.gain < roster.gain else 'more'}"
+        lines.append(f"Second best: {len(it.granted)} of {len(it.request.wishes)} wishes are"
+                     f" granted, gain {spelled(it.gain)}, {less}.")
+        if it.unmet != roster.unmet:
+            lines.append("What is needed is met." if not it.unmet else
+                         "Not all that is needed is met: " + "; ".join(it.unmet) + ".")
+        lines += [f"  without: {_listed(_others(roster, it)) or 'nothing'}",
+                  f"  with:    {_listed(_others(it, roster)) or 'nothing'}"]
+    return "\n".join(lines) + "\n"
+
+
+def _others(one: Roster, two: Roster) -> list[Wish]:
+    """The wishes that one roster grants and another one does not."""
+    return [one.request.wishes[it] for it in sorted(set(one.granted) - set(two.granted))]
+
+
+def _second_record(roster: Roster, it: Roster) -> dict[str, Any]:
+    """The second best roster for JSON."""
+    return {"granted": len(it.granted), "gain": number_of(it.gain), "unmet": it.unmet,
+            "new": _listed(_others(it, roster)), "dropped": _listed(_others(roster, it))}
+
+
+def json_text(roster: Roster, changes: Sequence[Change] | None = None,
+              others: Sequence[Roster] | None = None) -> str:
     """The roster as JSON."""
     found: dict[str, Any] = {
         "granted": len(roster.granted), "gain": number_of(roster.gain),
@@ -137,6 +171,8 @@ def json_text(roster: Roster, changes: Sequence[Change] | None = None) -> str:
         "shifts": shifts_table(roster).records(), "notes": list(roster.request.notes)}
     if changes is not None:
         found["one more place"] = changes_table(changes).records()
+    if others is not None:
+        found["second best"] = [_second_record(roster, it) for it in others]
     return json_of(found)
 
 

@@ -99,8 +99,8 @@ def _of_several(written: Written, request: Request, size: int | None, seconds: f
                          " --size out")
     joined = Joined(written.texts)
     further = [Limit(it.name, it.most, {
-        joined.index[written.elements[each].name]: 1 for each in it.members})
-        for it in written.further]
+        joined.index[written.elements[each].name]: it.amount(each) for each in it.members},
+        it.scale) for it in written.further]
     outcome = solve_limits(joined, further, None, seconds, progress=progress)
     if outcome.plan is None:
         raise InputFault("no roster was found that keeps all limits")

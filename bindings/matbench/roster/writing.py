@@ -3,7 +3,7 @@ where it is too large for one, and further limits that cross these."""
 from __future__ import annotations
 
 import collections
-from dataclasses import dataclass
+from dataclasses import dataclass, field
 from typing import TYPE_CHECKING, TypeVar
 
 from matbench.descriptions import MOST
@@ -13,7 +13,7 @@ from matbench.spreadsheets import scale_of
 from matbench.writing import MOST_WEIGHT
 
 if TYPE_CHECKING:
-    from collections.abc import Callable, Hashable, Iterable, Sequence
+    from collections.abc import Callable, Hashable, Iterable, Mapping, Sequence
 
     from matbench.roster.model import Request, Shift, Wish
 
@@ -34,11 +34,18 @@ class Element:
 
 @dataclass(frozen=True)
 class Family:
-    """At most `most` of these elements; `name` says for people what this limits."""
+    """At most `most` of these elements, or of what they count by `amounts`; `name` says for people
+    what this limits. Amounts are in units of which `scale` are one of the table's."""
 
     name: str
     most: int
     members: frozenset[int]
+    amounts: Mapping[int, int] = field(default_factory=dict)
+    scale: int = 1
+
+    def amount(self, element: int) -> int:
+        """What an element counts."""
+        return self.amounts.get(element, 1)
 
 
 @dataclass(frozen=True)
@@ -236,8 +243,25 @@ def write_request(request: Request) -> Written:
                  " ".join(["weights", *(weights[it] for it in here)])]
         lines += [*_matroid(shifts, elements), *_matroid(people, elements)]
         texts.append("\n".join([*lines, "end", ""]))
-    further += _across(parts, request, elements)
+    further += [*_across(parts, request, elements), *_hours(request, elements)]
     return Written(tuple(elements), tuple(texts), tuple(further), scale, keeping)
+
+
+def _hours(request: Request, elements: Sequence[Element]) -> Iterable[Family]:
+    """The limits of the hours of people who wish more. Raises InputFault for one that is too
+    large."""
+    of_people = _grouped(elements, lambda wish: request.wishes[wish].person)
+    for person, members in of_people.items():
+        own = {it: request.wishes[elements[it].wish].hours for it in sorted(members)}
+        wished = sum(it.hours for it in request.wishes if it.person == person and not it.never)
+        most = request.people[person].hours
+        if most is None or wished <= most:
+            continue
+        scale = scale_of([most, *own.values()])
+        amounts = {it: int(hours * scale) for it, hours in own.items() if hours}
+        if max([int(most * scale), *amounts.values()]) > MOST_WEIGHT // 1000:
+            raise InputFault(f"the hours of {person} are too large: measure them in a larger unit")
+        yield Family(f"{person}, hours", int(most * scale), frozenset(amounts), amounts, scale)
 
 
 def _has_nests(families: Sequence[Family]) -> bool:
