@@ -27,7 +27,7 @@ rungs_of (rainbow n v c rungs cut missing) = map plain_rung rungs
 rungs_of (assign n r c rungs cut) = map plain_rung rungs
 rungs_of answer = []
 
--- the disjoint sets of an answer that has such
+-- the parts, bases or trees of an answer, or the sets that cover the elements
 abbrev pub parts_of : Certificate → List (List ℕ)
 parts_of (union_of n weight parts levels) = parts
 parts_of (pack n bases cut) = bases
@@ -42,7 +42,7 @@ pub record IsAllowedRung (problem : Instance) (k : ℕ) (rung : PlainRung) : Typ
   pub allow : AllAllow problem rung.set
   pub priced : rung.weight ≡ weight (weights_of problem) rung.set
 
--- of each size there is one
+-- the k-th rung has such a set of k elements
 abbrev pub AreAllowedRungs : Instance → List PlainRung → Type 0
 AreAllowedRungs problem rungs = (k : ℕ) (rung : PlainRung) → slice_get rungs k ≡ Some rung → IsAllowedRung problem k rung
 
@@ -65,7 +65,7 @@ elements_in (rainbow n v c rungs cut missing) = n
 elements_in (assign n r c rungs cut) = n
 
 -- the sets of the answer are of the kind that was asked for, be there better ones or not, and its weights are theirs. An answer that there are
--- none has no sets
+-- none has no sets, and of one that the problem does not take no sets are looked at but those of each size
 abbrev pub IsOfKind : Instance → Certificate → Type 0
 IsOfKind (list w matroids) (union_of n printed parts levels) =
     AreParts (map is_independent matroids) parts × (printed ≡ weight w (family_union parts))

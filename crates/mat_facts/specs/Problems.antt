@@ -21,8 +21,8 @@ size_of (rooted vertices root arcs costs) = length arcs
 size_of (coloured vertices colours edges colour_of w) = length edges
 size_of (table rows columns cells w) = length cells
 
--- the rules. Of a graph: no ring of edges; of arcs: no ring, whatever their directions, and at most one into each vertex and none into the root;
--- of coloured edges: no ring, and no two of one colour; of cells: no two in one row, and no two in one column
+-- the rules. Of a graph: no cycle of edges; of arcs: no cycle, whatever their directions, and at most one into each vertex and none into the root;
+-- of coloured edges: no cycle, and no two of one colour; of cells: no two in one row, and no two in one column
 abbrev pub rules_of : Instance → List (List ℕ → Bool)
 rules_of (pair w first second) = is_independent first ∷ is_independent second ∷ []
 rules_of (list w matroids) = map is_independent matroids

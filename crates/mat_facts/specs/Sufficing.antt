@@ -1,5 +1,5 @@
 -- Which lists of facts suffice. Each form says which facts stand in the list, in any order and beside any others, and how their numbers add up;
--- the laws in `laws` say what follows where the facts hold.
+-- the laws in `laws` say what follows if the facts hold.
 use Rattle.std.specs.Prelude.{◌≡◌, ℕ, suc, ◌+◌, ◌-◌, ◌*◌, ◌<◌, ◌≤◌, ◌⊎◌, true, List, [], ◌∷◌, length, Some, slice_get, slice_index, Contains}
 use Rattle.mat_sets.specs.FallingWeights.{heavy}
 use Rattle.mat_sets.specs.Sets.{all_below, is_member, minus, IsSubset}
@@ -28,7 +28,7 @@ pub record BoundsSize (problem : Instance) (facts : List Fact) (k : ℕ) (most :
   pub long : (i : ℕ) → i < rule_count problem → length (list_at terms i) ≡ k
   pub total : sum_of_first (step_at terms (rule_count problem)) k ≼ most
 
--- the empty set weighs nothing
+-- of 0 elements: the empty set weighs nothing, which is at most this
 abbrev pub IsNothing : ℕ → Weight → Type 0
 IsNothing k most = (k ≡ 0) × (zero_weight ≼ most)
 
@@ -58,7 +58,7 @@ pub record HasFullSet (problem : Instance) (facts : List Fact) (m : ℕ) : Type 
   pub says_full : Contains facts (full set)
   pub few : length set < m
 
--- no set that all rules allow has m elements: there are no more elements, or one of the two above
+-- no set that all rules allow has m elements or more: there are fewer elements at all, or one of the two above
 abbrev pub ShowsNoLarger : Instance → List Fact → ℕ → Type 0
 ShowsNoLarger problem facts m = (size_of problem < m) ⊎ (DividesElements problem facts m ⊎ HasFullSet problem facts m)
 

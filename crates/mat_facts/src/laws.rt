@@ -24,7 +24,8 @@ pub fn facts_bound_a_size()
         → (X : List ℕ) → AllAllow problem X → length X ≡ k → weight (weights_of problem) X ≼ most }
 {}
 
-/// No set that all rules allow has as many elements as facts on some sets exclude (Edmonds).
+/// No set that all rules allow has m elements or more if there are fewer elements; if each element is in one of some sets, one for each rule, of
+/// which the rules together allow fewer (Edmonds); or if the one rule allows a set of fewer elements to which none can be added.
 pub fn facts_bound_all_sizes()
     ensures { (problem : Instance) (answer : Certificate) (facts : List Fact) → IsValid problem → All (Holds problem answer) facts
         → (m : ℕ) → ShowsNoLarger problem facts m → (X : List ℕ) → AllAllow problem X → length X < m }
@@ -38,14 +39,14 @@ pub fn facts_bound_each_size()
         → (X : List ℕ) → AllAllow problem X → weight (weights_of problem) X ≼ most }
 {}
 
-/// An answer is best where facts hold that suffice for its form: it has the heaviest sets of each size and the largest; the best parts; the
-/// most bases, the fewest sets, or none can be; such trees or arborescences, the cheapest one, or there are none.
+/// An answer is best if facts hold that suffice for its form: it has the heaviest sets of each size and the largest; the best parts; the most
+/// bases, or the empty one alone; the fewest sets that cover, or there are none; such trees or arborescences, the cheapest one, or there are none.
 pub fn facts_suffice()
     ensures { (problem : Instance) (answer : Certificate) (facts : List Fact) → IsValid problem → All (Holds problem answer) facts
         → Suffice problem answer facts → IsOptimal problem answer }
 {}
 
-/// There is no spanning tree of pairwise different colours where without the edges of some colours too many groups are left (Broersma and Li).
+/// There is no spanning tree of pairwise different colours if without the edges of some colours too many groups are left (Broersma and Li).
 pub fn facts_exclude_rainbow_trees()
     ensures { (vertices colours : ℕ) (edges : List (ℕ × ℕ)) (colour_of : List ℕ) (w : List Weight) (answer : Certificate) (facts : List Fact)
         → IsValid (coloured vertices colours edges colour_of w) → All (Holds (coloured vertices colours edges colour_of w) answer) facts
@@ -53,8 +54,8 @@ pub fn facts_exclude_rainbow_trees()
         → (X : List ℕ) → ¬ IsRainbowTree vertices (length edges) (ends_of edges) (slice_index colour_of) X }
 {}
 
-/// Where no cost is below 0, arcs along which the root reaches every vertex cost at least as much as a least spanning arborescence, however
-/// many there are. With costs below 0 more arcs may cost less.
+/// If no cost is below 0, arcs along which the root reaches every vertex cost at least what facts show each spanning arborescence to cost,
+/// however many arcs they are. With costs below 0 more arcs may cost less.
 pub fn facts_bound_reaching_sets()
     ensures { (vertices root : ℕ) (arcs : List (ℕ × ℕ)) (costs : List Weight) (answer : Certificate) (facts : List Fact)
         → IsValid (rooted vertices root arcs costs) → All (Holds (rooted vertices root arcs costs) answer) facts
@@ -70,9 +71,9 @@ pub fn right_answers_give_reasons()
         → Suffice problem answer (reason_of each_size problem answer) }
 {}
 
-/// Of a right answer with a set of each size, the facts that are told suffice: for each size that is told, that no set of it weighs more; where
-/// the sizes beside the heaviest set are told too, that none of any size weighs more; and that none is larger. `told_sizes` tells these sizes. Of a right arborescence with
-/// no cost below 0 they suffice to show that no arcs along which the root reaches every vertex cost less.
+/// Of a right answer with a set of each size, the facts that are told suffice: for each size that is told, that no set of it weighs more; if the
+/// sizes beside the heaviest set are told too, that none of any size weighs more; and that none is larger. `told_sizes` tells these sizes. The
+/// facts of a right arborescence suffice, if no cost is below 0, to show that no arcs along which the root reaches every vertex cost less.
 pub fn told_reasons_suffice()
     ensures told { (heaviest last : ℕ) → (told_sizes heaviest last heaviest ≡ true) × (told_sizes heaviest last (heaviest - 1) ≡ true)
         × (told_sizes heaviest last (suc heaviest) ≡ true) × (told_sizes heaviest last last ≡ true) }
