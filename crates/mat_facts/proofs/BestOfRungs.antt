@@ -1,7 +1,7 @@
 -- Where each rung bounds its size by steps that fall, the heaviest rung is heaviest of all sizes: the steps of the rung before it are not below
 -- 0, since its set would weigh less otherwise; and the last step of the rung behind it is not above 0.
-use Rattle.mat_facts.proofs.Common.{◌≡◌, true, Bool, ◌<◌, ◌≤◌, ◌-◌, ◌⊎◌, ℕ, suc, List, [], ◌∷◌, length, None, Some, slice_get, inl, inr, refl, sym, ap, ◌∙◌, subst, arith, cases_lt, ints, slice_get_cases, ◌⊕◌, ◌≼◌, weight, zero_weight, Weight, at_most_same, at_most_trans, pairs, Instance, IsValid}
-use Rattle.mat_facts.proofs.Common.{Certificate, PlainRung, AreAllowedRungs, Fact, allowed, few_above, shared, Holds, AllAllow, rule_at, rule_count, size_of, weights_of, each_size, BoundsEachSize, BoundsLarger, BoundsSize, BoundsSmaller, IsNothing, ShowsEachRung, ShowsNoLarger, list_at, step_at}
+use Rattle.mat_facts.proofs.Common.{◌≡◌, true, Bool, ◌<◌, ◌≤◌, ◌-◌, ◌⊎◌, ℕ, suc, List, [], ◌∷◌, length, Some, slice_get, inl, inr, refl, sym, ap, ◌∙◌, subst, arith, cases_lt, ints, slice_get_cases, slice_get_within, ◌⊕◌, ◌≼◌, weight, zero_weight, Weight, at_most_same, at_most_trans, pairs, Instance, IsValid}
+use Rattle.mat_facts.proofs.Common.{Certificate, PlainRung, AreAllowedRungs, Fact, allowed, few_above, shared, Holds, AllAllow, rule_at, rule_count, size_of, weights_of, BoundsEachSize, BoundsLarger, BoundsSize, BoundsSmaller, IsNothing, ShowsEachRung, ShowsNoLarger, list_at, step_at}
 use Rattle.mat_facts.proofs.Common.{sum_of_first}
 use Rattle.std.specs.List.{All, Contains}
 use Rattle.mat_facts.proofs.GivenBounds.{FallingBound}
@@ -16,11 +16,12 @@ pub record ShowsFallingRungs (told : ℕ → Bool) (problem : Instance) (rungs :
   pub each : (k : ℕ) (rung : PlainRung) → slice_get rungs k ≡ Some rung → told k ≡ true → FallingBound problem facts k rung.weight
   pub larger : ShowsNoLarger problem facts (length rungs)
 
-pub rungs_shown : (problem : Instance) (rungs : List PlainRung) (facts : List Fact) → ShowsFallingRungs each_size problem rungs facts
-    → ShowsEachRung problem rungs facts
-rungs_shown problem rungs facts s = record {
+-- if all are told, all are shown
+pub rungs_shown : (told : ℕ → Bool) (problem : Instance) (rungs : List PlainRung) (facts : List Fact) → ((k : ℕ) → k < length rungs → told k ≡ true)
+    → ShowsFallingRungs told problem rungs facts → ShowsEachRung problem rungs facts
+rungs_shown told problem rungs facts all s = record {
   says_allowed = s.says_allowed;
-  each = λ k rung at. inr (s.each k rung at refl).bound;
+  each = λ k rung at. inr (s.each k rung at (all k (slice_get_within rungs k rung at))).bound;
   larger = s.larger;
 }
 
@@ -42,7 +43,7 @@ module _ (problem : Instance) (answer : Certificate) (facts : List Fact) (valid 
   picked j m v b pick X all size low inside =
       by_terms (size_of problem) (rule_count problem) (rule_at problem) (weights_of problem) b.shares b.terms
       (said problem answer facts valid hold (shared b.shares) b.says_shares)
-      (λ i l. said problem answer facts valid hold (few_above i (list_at b.shares i) (list_at b.terms i)) (b.says_terms i l))
+      (λ i l. (said problem answer facts valid hold (few_above i (list_at b.shares i) (list_at b.terms i)) (b.says_terms i l)).1)
       pick m X (allowed_set problem valid X all) all size low
       (λ i l under less. let long = b.long i under in let small = inside l less in omega arith)
 
@@ -117,13 +118,7 @@ module _ (problem : Instance) (answer : Certificate) (facts : List Fact) (valid 
         nothing (x ∷ X) e = absurd (omega arith)
 
     inside : k < length rungs
-    inside = elim (slice_get_cases rungs k).1 [
-      | inl found ↦ found.1
-      | inr past ↦ absurd (none (sym past.1 ∙ at))
-    ]
-      where
-        none : None ≡ Some rung → ⊥
-        none e = cc
+    inside = slice_get_within rungs k rung at
 
     smaller : IsNothing (k - 1) rung.weight ⊎ BoundsSmaller problem facts (k - 1) rung.weight
     smaller = elim (cases_lt (k - 1) 1) [

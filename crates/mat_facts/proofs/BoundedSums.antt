@@ -1,7 +1,11 @@
 -- A set of whose members at most l have more than the l-th of some terms weighs at most as much as these terms together: as long as there are
 -- members, one has at most the last term; it goes with that term. So no order of the members or of the terms is needed.
-use Rattle.mat_facts.proofs.Common.{◌≡◌, ◌<◌, ◌≤◌, ℕ, zero, suc, Bool, true, false, cond, List, [], ◌∷◌, length, refl, ap, arith, ints, ◌⊕◌, ◌≼◌, is_below, weight_sum, Weight, pairs, not_below_gives, count_above, sum_of_first}
+use Rattle.mat_facts.proofs.Common.{◌≡◌, ◌<◌, ◌≤◌, ℕ, zero, suc, Bool, true, false, cond, List, [], ◌∷◌, length, refl, ap, arith, ints, ◌⊕◌, ◌≼◌, is_below, weight_sum, Weight, pairs, not_below_gives, sum_of_first}
 use Rattle.std.specs.List.{filter}
+
+-- how many members of X have more than t
+abbrev pub count_above : (ℕ → Weight) → Weight → List ℕ → ℕ
+count_above share t X = length (filter (λ x. is_below t (share x)) X)
 
 -- one of the items taken out of a list
 record Taken (share : ℕ → Weight) (t : Weight) (X : List ℕ) : Type 0 where

@@ -4,8 +4,9 @@ pub use Rattle.std.proofs.Common.{◌++◌, ◌+◌, ◌-◌, ◌<◌, ◌||◌,
 pub use Rattle.std.proofs.lemmas.Bool.{and_from, and_parts, both_ways, cases_Bool, cases_eq, cases_lt, false_from_ne_true, not-true, not_from_false, or_cases, or_left, or_right}
 pub use Rattle.std.proofs.lemmas.Int.{ints}
 pub use Rattle.std.proofs.lemmas.List.{get_or-map, length-map}
+pub use Rattle.std.proofs.lemmas.List.Sums.{length-filter}
 pub use Rattle.std.proofs.lemmas.List.Elements.{All-append, All-cons, All-contains, All-nil, Contains-append_left, Contains-append_right}
-pub use Rattle.std.proofs.lemmas.Option.{same_Some, slice_get-map, slice_get_cases}
+pub use Rattle.std.proofs.lemmas.Option.{same_Some, slice_get-map, slice_get_cases, slice_get_within}
 pub use Rattle.mat_sets.specs.FallingWeights.{heavy}
 pub use Rattle.mat_sets.specs.Families.{indicator}
 unfoldable pub use Rattle.mat_sets.specs.Families.{family_union, multiplicity}
@@ -56,10 +57,10 @@ pub use Rattle.mat_check.specs.Optimal.{AreFewestSets, AreMostBases, AreOptimalR
 pub use Rattle.mat_check.proofs.ValidGraphs.{coloured_is_coloured, coloured_is_graph, graph_is_graph, root_is_below, rooted_is_graph}
 pub use Rattle.mat_facts.specs.Allowances.{AddUp, AllowsAtMost, HasFewAbove}
 pub use Rattle.mat_facts.specs.Answers.{AreAllowedRungs, IsAllowedRung, plain_rung, rungs_of}
-pub use Rattle.mat_facts.specs.Facts.{Fact, allowed, at_most, between, entered_by, falls_apart, few_above, full, groups, in_parts, none_gains, shared, without_root}
+pub use Rattle.mat_facts.specs.Facts.{Fact, allowed, at_most, between, entered_by, falls_apart, few_above, full, in_parts, none_gains, shared, without_root}
 pub use Rattle.mat_facts.specs.Holding.{AreGroups, Holds}
 pub use Rattle.mat_facts.specs.Problems.{AllAllow, rule_at, rule_count, rules_of, size_of, weights_of}
-pub use Rattle.mat_facts.specs.Reasons.{are_costs, colours_facts, costs_facts, cut_facts, each_size, ladder_facts, last_facts, level_facts, level_most_facts, reason_of, rung_facts, shares_of, size_facts, sizes_facts, told_sizes, whole_facts}
-pub use Rattle.mat_facts.specs.Sufficing.{BoundsEachSize, BoundsLarger, BoundsLevel, BoundsSize, BoundsSmaller, DividesElements, IsNothing, ShowsCheapestReach, ShowsEachRung, ShowsNoArborescences, ShowsNoFewerSets, ShowsNoLarger, ShowsNoMoreBases, ShowsNoRainbowTree, ShowsNoTrees, ShowsUnion}
+pub use Rattle.mat_facts.specs.Reasons.{are_costs, colours_facts, costs_facts, cut_facts, ladder_facts, last_facts, level_facts, level_most_facts, reason_of, rung_facts, shares_of, size_facts, sizes_facts, told_sizes, whole_facts}
+pub use Rattle.mat_facts.specs.Sufficing.{BoundsEachSize, BoundsLarger, BoundsLevel, BoundsSize, BoundsSmaller, DividesElements, IsNothing, ShowsCheapestReach, ShowsEachRung, ShowsNoArborescences, ShowsNoCheaper, ShowsNoFewerSets, ShowsNoHeavier, ShowsNoLarger, ShowsNoMoreBases, ShowsNoRainbowTree, ShowsNoTrees, ShowsUnion}
 pub use Rattle.mat_facts.specs.Sufficing.{Suffice}
-pub use Rattle.mat_facts.specs.Terms.{count_above, count_of_first, falling_terms, list_at, put_falling, step_at, sum_of_first}
+pub use Rattle.mat_facts.specs.Terms.{count_of_first, falling_terms, list_at, put_falling, step_at, sum_of_first}

@@ -2,11 +2,12 @@
 -- lighter one.
 use Rattle.mat_facts.proofs.Common.{◌≡◌, ◌<◌, ◌≤◌, ℕ, Bool, true, false, not, ◌||◌, eqb, List, length, inl, inr, refl, sym, ◌∙◌, subst, arith, and_parts, and_from, both_ways, cases_eq, cases_lt, eq-eqb, eqb-true, false_from_ne_true, ne_eqb, not_from_false, or_cases, or_left, or_right, is_member}
 use Rattle.mat_facts.proofs.Common.{with_one, without_one, IsRising, IsSubset, ◌≼◌, is_below, weight_at, Weight, IsRising-filter, is_member-filter, is_member-with_one, is_member-without_one, IsRising-with_one, IsRising-without_one, same_size_subset, subset_or, at_most_not, at_most_trans}
-use Rattle.mat_facts.proofs.Common.{below_gives, not_below_gives, IsMatroid, grow_to_size, rising, IsGrown, count_above, falling_terms}
-use Rattle.std.specs.List.{filter}
+use Rattle.mat_facts.proofs.Common.{below_gives, not_below_gives, IsMatroid, grow_to_size, rising, IsGrown, falling_terms, length-filter}
+use Rattle.std.specs.List.{count_by, filter}
 use Rattle.mat_sets.proofs.Cardinalities.{length-exchange_one, length-with_one}
 use Rattle.mat_laws.specs.Heaviest.{IsHeaviest}
 use Rattle.mat_laws.proofs.LocallyHeaviest.{exchange_gains_nothing}
+use Rattle.mat_facts.proofs.BoundedSums.{count_above}
 use Rattle.mat_facts.proofs.FallingTerms.{length-falling_terms, members_above}
 
 -- a member of X + e other than y is one of X - y + e
@@ -94,9 +95,11 @@ module _ {n : ℕ} {p : List ℕ → Bool} (laws : IsMatroid n p) (w : ℕ → W
 
 -- the terms of a heaviest set bound every independent set
 pub terms_of_heaviest : {n : ℕ} {p : List ℕ → Bool} → IsMatroid n p → (w : ℕ → Weight) (X : List ℕ) → IsHeaviest p w X
-    → (J : List ℕ) → p J ≡ true → (l : ℕ) → l < length (falling_terms w X) → count_above w (weight_at (falling_terms w X) l) J ≤ l
+    → (J : List ℕ) → p J ≡ true → (l : ℕ) → l < length (falling_terms w X)
+    → count_by (λ x. is_below (weight_at (falling_terms w X) l) (w x)) J ≤ l
 terms_of_heaviest laws w X h J ok l less =
     let inside : l < length X = let e = length-falling_terms w X in omega arith in
     let few = members_above w X l inside in
     let most = none_has_more laws w X h (weight_at (falling_terms w X) l) (omega arith) J ok in
+    let same = length-filter (λ x. is_below (weight_at (falling_terms w X) l) (w x)) J in
     omega arith

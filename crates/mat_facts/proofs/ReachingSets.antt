@@ -64,7 +64,7 @@ subset_weighs n w X Y x y inside h =
 
 pub reaching_costs : (vertices root : ℕ) (arcs : List (ℕ × ℕ)) (costs : List Weight) (answer : Certificate) (facts : List Fact)
     → IsValid (rooted vertices root arcs costs) → All (Holds (rooted vertices root arcs costs) answer) facts
-    → (cost : Weight) → ShowsCheapestReach (rooted vertices root arcs costs) facts cost
+    → (cost : Weight) → ShowsCheapestReach (rooted vertices root arcs costs) vertices facts cost
     → (Y : List ℕ) → IsSet (length arcs) Y → ((v : ℕ) → v < vertices → Reaches (ends_of arcs) Y root v) → cost ≼ weight costs Y
 reaching_costs vertices root arcs costs answer facts valid hold cost s Y set reached =
     let g = rooted_is_graph vertices root arcs costs valid in

@@ -1,7 +1,7 @@
 -- Right ladders give reasons: of two matroids, of colours, of a table, and of one matroid.
-use Rattle.mat_facts.proofs.Common.{◌≡◌, ◌+◌, ◌<◌, ◌≤◌, ℕ, Bool, true, List, [], ◌∷◌, ◌++◌, length, get_or, Option, None, Some, slice_get, inl, inr, refl, sym, subst, arith, ints, All-append, All-cons, All-nil, Contains-append_left, Contains-append_right, slice_get_cases, MatchOption, ends_of}
+use Rattle.mat_facts.proofs.Common.{◌≡◌, ◌+◌, ◌<◌, ◌≤◌, ℕ, zero, suc, Bool, true, List, [], ◌∷◌, ◌++◌, length, get_or, Option, None, Some, slice_get, inl, inr, refl, sym, subst, arith, ints, All-append, All-cons, All-nil, Contains-append_left, Contains-append_right, slice_get_cases, MatchOption, ends_of}
 use Rattle.mat_facts.proofs.Common.{weight_at, Weight, at_most_same, pairs, IsMatroid, is_graphic, number_of_components, Tree, is_independent, column_at, row_at, is_once, Instance, pair, list, coloured, table, IsValid, Certificate, intersect, best, rainbow, assign, last_rung, PlainRung, PricedRung}
-use Rattle.mat_facts.proofs.Common.{AreRightRungs, IsRight, IsRightLadder, IsRightRainbow, AddUp, Fact, allowed, falls_apart, few_above, full, shared, Holds, colours_facts, each_size, ladder_facts, last_facts, reason_of, sizes_facts, whole_facts, AreAllowedRungs, rungs_of, ShowsNoLarger, Suffice}
+use Rattle.mat_facts.proofs.Common.{AreRightRungs, IsRight, IsRightLadder, IsRightRainbow, AddUp, Fact, allowed, falls_apart, few_above, full, shared, Holds, colours_facts, ladder_facts, last_facts, reason_of, sizes_facts, whole_facts, AreAllowedRungs, rungs_of, ShowsNoLarger, ShowsNoRainbowTree, Suffice, list_at}
 use Rattle.std.specs.List.{All, Contains}
 use Rattle.mat_fronts.specs.Rainbow.{IsMissingColours, edges_without}
 use Rattle.mat_facts.proofs.BestOfRungs.{ShowsFallingRungs}
@@ -11,10 +11,9 @@ use Rattle.mat_facts.proofs.ListedFacts.{all_one, all_told, all_two, stands_in_t
 use Rattle.mat_facts.proofs.RightRungs.{each_rung_shown, ladder_allowed, ladder_holds}
 use Rattle.mat_facts.proofs.RulesOfProblems.{both_allow, one_allows, rules_are_matroids}
 
--- the facts hold and suffice
+-- whatever is told, the facts hold and suffice
 abbrev pub GivesReason : Instance → Certificate → Type 0
-GivesReason problem answer =
-    All (Holds problem answer) (reason_of each_size problem answer) × Suffice problem answer (reason_of each_size problem answer)
+GivesReason problem answer = (told : ℕ → Bool) → All (Holds problem answer) (reason_of told problem answer) × Suffice problem answer (reason_of told problem answer)
 
 -- the facts of an answer with a set of each size hold, its sets are allowed, and each that is told bounds its size by steps that fall
 pub record GivesRungs (told : ℕ → Bool) (problem : Instance) (answer : Certificate) : Type 0 where
@@ -36,7 +35,7 @@ intersection_gives told w first second n rungs cut valid right =
     let are = ladder_allowed told problem answer (length w) p q w lp lq rungs cut ladder refl (both_allow p q) in
     record {
       hold = ladder_holds told problem answer (length w) p q w lp lq rungs cut ladder (right.0, are)
-          (λ shares h. h) (λ share terms h. h) (λ share terms h. h) (λ S c h. h) (λ S c h. h);
+          (λ shares h. h) (λ share terms h. (omega arith, h)) (λ share terms h. (omega arith, h)) (λ S c h. (omega arith, h)) (λ S c h. (omega arith, h));
       are = are;
       rungs = each_rung_shown told problem answer (length w) p q w lp lq rungs cut ladder refl refl (reason_of told problem answer) (λ fact h. h);
     }
@@ -57,8 +56,8 @@ assignment_gives told rows columns cells w n r c rungs cut valid right =
     let lq : IsMatroid m q = laws.each 1 (omega arith) in
     let are = ladder_allowed told problem answer m p q w lp lq rungs cut ladder refl (both_allow p q) in
     record {
-      hold = ladder_holds told problem answer m p q w lp lq rungs cut ladder (right.0, are)
-          (λ shares h. h) (λ share terms h. h) (λ share terms h. h) (λ S c h. h) (λ S c h. h);
+      hold = ladder_holds told problem answer m p q w lp lq rungs cut ladder (right.0, right.1, right.2, are)
+          (λ shares h. h) (λ share terms h. (omega arith, h)) (λ share terms h. (omega arith, h)) (λ S c h. (omega arith, h)) (λ S c h. (omega arith, h));
       are = are;
       rungs = each_rung_shown told problem answer m p q w lp lq rungs cut ladder refl refl (reason_of told problem answer) (λ fact h. h);
     }
@@ -94,12 +93,30 @@ module _ (told : ℕ → Bool) (vertices colours : ℕ) (edges : List (ℕ × �
       let extra = colours_facts vertices m (ends_of edges) colour missing in
       record {
         hold = All-append (Holds problem answer) (ladder_facts told m p q rungs cut) extra
-            (ladder_holds told problem answer m p q w lp lq rungs cut is.ladder (right.0, are)
-            (λ shares h. h) (λ share terms h. h) (λ share terms h. h) (λ S c h. h) (λ S c h. h))
+            (ladder_holds told problem answer m p q w lp lq rungs cut is.ladder (right.0, right.1, right.2, are)
+            (λ shares h. h) (λ share terms h. (omega arith, h)) (λ share terms h. (omega arith, h)) (λ S c h. (omega arith, h)) (λ S c h. (omega arith, h)))
             (colours_hold missing missing is.missing_colours);
         are = are;
         rungs = each_rung_shown told problem answer m p q w lp lq rungs cut is.ladder refl refl (reason_of told problem answer)
             (λ fact h. Contains-append_left (ladder_facts told m p q rungs cut) extra fact h);
+      }
+
+  -- if the last set is no spanning tree, the missing colours show that there is none
+  pub no_tree_shown : (missing : Option (List ℕ)) → IsRight problem (rainbow n v c rungs cut missing) → length rungs < vertices
+      → ShowsNoRainbowTree (reason_of told problem (rainbow n v c rungs cut missing))
+  no_tree_shown None right short = (let many = right.3.missing_colours in absurd (omega arith))
+  no_tree_shown (Some C) right short =
+      let m = length edges in
+      let is : IsRightRainbow vertices m (ends_of edges) colours colour w rungs cut (Some C) =
+      subst (λ k. IsRightRainbow vertices k (ends_of edges) colours colour w rungs cut (Some C)) right.0 right.3 in
+      let p = is_graphic m (ends_of edges) in
+      let q = is_once m colours colour in
+      let count = number_of_components vertices (ends_of edges) (edges_without m colour C) in
+      record {
+        colours = C;
+        count = count;
+        says_groups = Contains-append_right (ladder_facts told m p q rungs cut) (falls_apart C count ∷ []) (falls_apart C count) (0, omega arith, refl);
+        few = is.missing_colours.1.apart;
       }
 
 -- ---- of one matroid
@@ -128,16 +145,20 @@ module _ (told : ℕ → Bool) (w : List Weight) (matroid : Tree) (n : ℕ) (run
   ends = last_facts (slice_get rungs (last_rung rungs))
 
   whole : AddUp (length w) 1 w (w ∷ [])
-  whole e l = omega (arith, ints, pairs)
+  whole = record { lists = refl; long = long; sums = λ e l. omega (arith, ints, pairs) }
+    where
+      long : (i : ℕ) → i < 1 → length (list_at (w ∷ []) i) ≡ length w
+      long zero l = refl
+      long (suc i) l = absurd (omega arith)
 
   ends_hold : (found : Option PlainRung) → slice_get rungs (last_rung rungs) ≡ found → All (Holds single answer) (last_facts found)
   ends_hold None e = All-nil (Holds single answer)
-  ends_hold (Some rung) e = all_one (Holds single answer) (full rung.set) (are.last rung e)
+  ends_hold (Some rung) e = all_one (Holds single answer) (full rung.set) (refl, are.last rung e)
 
   sizes_hold : (k : ℕ) (rung : PlainRung) → slice_get rungs k ≡ Some rung → All (Holds single answer) (whole_facts w rung)
   sizes_hold k rung at =
       all_two (Holds single answer) (shared (w ∷ [])) (few_above 0 w (terms_of w rung.set)) whole
-      (terms_of_heaviest lp (weight_at w) rung.set (are.each k rung at).heaviest)
+      (omega arith, record { long = refl; few = terms_of_heaviest lp (weight_at w) rung.set (are.each k rung at).heaviest })
 
   are_allowed : AreAllowedRungs single rungs
   are_allowed k rung at =
@@ -167,7 +188,6 @@ module _ (told : ℕ → Bool) (w : List Weight) (matroid : Tree) (n : ℕ) (run
         let says : Contains ends (full rung.set) = subst (λ o. Contains (last_facts o) (full rung.set)) (sym found.2) (0, omega arith, refl) in
         let size = (are.each (last_rung rungs) rung found.2).size in
         inr (inr (record {
-          one_rule = refl;
           set = rung.set;
           says_full = stands_later (full rung.set) allowed (sizes ++ ends) (Contains-append_right sizes ends (full rung.set) says);
           few = let some = are.some in omega arith;

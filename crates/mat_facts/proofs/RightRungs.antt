@@ -1,7 +1,7 @@
 -- A right ladder of two rules gives facts that hold and suffice: each rung bounds its size by the terms of its set, and the cut all sizes.
 use Rattle.mat_facts.proofs.Common.{◌≡◌, ◌+◌, ◌<◌, ℕ, zero, suc, Bool, true, List, [], ◌∷◌, ◌++◌, length, map, None, Some, slice_get, inl, inr, refl, sym, ap, ◌∙◌, subst, arith, ints, length-map, All-append, All-cons, Contains-append_left, Contains-append_right, same_Some, all_below, minus, ◌⊕◌}
 use Rattle.mat_facts.proofs.Common.{weight, weight_at, Weight, IsSet-all_below, IsSet-minus, at_most_same, pairs, IsMatroid, rank, Instance, Certificate, PlainRung, PricedRung, IsRightLadder, AddUp, AllowsAtMost, HasFewAbove, AreAllowedRungs, IsAllowedRung, plain_rung, Fact, allowed, at_most}
-use Rattle.mat_facts.proofs.Common.{few_above, shared, Holds, AllAllow, rule_count, size_of, weights_of, cut_facts, ladder_facts, rung_facts, shares_of, size_facts, sizes_facts, ShowsNoLarger}
+use Rattle.mat_facts.proofs.Common.{few_above, shared, Holds, AllAllow, rule_count, size_of, weights_of, cut_facts, ladder_facts, rung_facts, shares_of, size_facts, sizes_facts, ShowsNoLarger, list_at}
 use Rattle.std.specs.List.{All, Contains}
 use Rattle.mat_laws.proofs.BestLadders.{split_weight}
 use Rattle.mat_facts.proofs.GivenBounds.{FallingBound, allows_rank, bound_by_two, divided_by_cut, terms_of}
@@ -20,9 +20,18 @@ of_mapped (r ∷ rs) zero rung at = (r, refl, same_Some _ _ at)
 of_mapped (r ∷ rs) (suc k) rung at = of_mapped rs k rung at
 
 -- two shares of each element
-pub two_shares_add : (n : ℕ) (w first second : List Weight) → ((e : ℕ) → e < n → weight_at first e ⊕ weight_at second e ≡ weight_at w e)
-    → AddUp n 2 w (first ∷ second ∷ [])
-two_shares_add n w first second h e l = let sum = h e l in omega (arith, ints, pairs)
+pub two_shares_add : (n : ℕ) (w first second : List Weight) → length first ≡ n → length second ≡ n
+    → ((e : ℕ) → e < n → weight_at first e ⊕ weight_at second e ≡ weight_at w e) → AddUp n 2 w (first ∷ second ∷ [])
+two_shares_add n w first second one other h = record {
+  lists = refl;
+  long = long;
+  sums = λ e l. let sum = h e l in omega (arith, ints, pairs);
+}
+  where
+    long : (i : ℕ) → i < 2 → length (list_at (first ∷ second ∷ []) i) ≡ n
+    long zero l = one
+    long (suc zero) l = other
+    long (suc (suc i)) l = absurd (omega arith)
 
 -- what holds of the facts of a size by two shares
 pub size_holds : (H : Fact → Type 0) (first second : List Weight) (set : List ℕ) → H (shared (first ∷ second ∷ []))
@@ -35,17 +44,17 @@ module _ (told : ℕ → Bool) (problem : Instance) (answer : Certificate) (n : 
   -- what a form of answer adds: that facts on the two rules are facts of the problem
   module _ (holds_allowed : Holds problem answer allowed)
       (holds_shares : (shares : List (List Weight)) → AddUp n 2 w shares → Holds problem answer (shared shares))
-      (holds_first : (share terms : List Weight) → HasFewAbove p share terms → Holds problem answer (few_above 0 share terms))
-      (holds_second : (share terms : List Weight) → HasFewAbove q share terms → Holds problem answer (few_above 1 share terms))
+      (holds_first : (share terms : List Weight) → HasFewAbove n p share terms → Holds problem answer (few_above 0 share terms))
+      (holds_second : (share terms : List Weight) → HasFewAbove n q share terms → Holds problem answer (few_above 1 share terms))
       (holds_outer : (S : List ℕ) (c : ℕ) → AllowsAtMost n p S c → Holds problem answer (at_most 0 S c))
       (holds_inner : (S : List ℕ) (c : ℕ) → AllowsAtMost n q S c → Holds problem answer (at_most 1 S c)) where
     rung_holds : (k : ℕ) (rung : PricedRung) → slice_get rungs k ≡ Some rung → All (Holds problem answer) (size_facts (shares_of rung) rung.set)
     rung_holds k rung at =
         let is = (right.each k rung at).right in
         size_holds (Holds problem answer) rung.first rung.second rung.set
-        (holds_shares (shares_of rung) (two_shares_add n w rung.first rung.second is.split))
-        (holds_first rung.first (terms_of rung.first rung.set) (terms_of_heaviest lp (weight_at rung.first) rung.set is.first_heaviest))
-        (holds_second rung.second (terms_of rung.second rung.set) (terms_of_heaviest lq (weight_at rung.second) rung.set is.second_heaviest))
+        (holds_shares (shares_of rung) (two_shares_add n w rung.first rung.second is.first_length is.second_length is.split))
+        (holds_first rung.first (terms_of rung.first rung.set) (record { long = is.first_length; few = terms_of_heaviest lp (weight_at rung.first) rung.set is.first_heaviest }))
+        (holds_second rung.second (terms_of rung.second rung.set) (record { long = is.second_length; few = terms_of_heaviest lq (weight_at rung.second) rung.set is.second_heaviest }))
 
     cut_holds : All (Holds problem answer) (cut_facts n p q cut)
     cut_holds =

@@ -99,9 +99,11 @@ module _ (w : List Weight) (matroids : List Tree) (n : ℕ) (printed : Weight) (
       All-cons (Holds problem answer) (in_parts level.at (held level)) (level_most_facts 0 tests level.cut) refl
       (hold_most (Holds problem answer) 0 tests level.cut (λ j l.
       let same : 0 + j ≡ j = omega arith in
-      subst (λ i. Holds problem answer (at_most i level.cut (get_or (ranks_of tests level.cut) j 0))) (sym same)
-      (subst (AllowsAtMost (length w) (test_at tests j) level.cut)
-      (sym (get_or-map (λ test. rank test level.cut) tests j (λ X. false) 0 l)) (allows_rank (laws.each j l) level.cut set))))
+      subst (λ i. Holds problem answer (at_most i level.cut (get_or (ranks_of tests level.cut) j 0))) (sym same) (
+        l,
+        (subst (AllowsAtMost (length w) (test_at tests j) level.cut)
+            (sym (get_or-map (λ test. rank test level.cut) tests j (λ X. false) 0 l)) (allows_rank (laws.each j l) level.cut set)),
+      )))
 
   level_bounds : (k : ℕ) (level : LevelLine) → slice_get levels k ≡ Some level → BoundsLevel problem facts level.at level.cut
   level_bounds k level at =
@@ -125,8 +127,8 @@ module _ (w : List Weight) (matroids : List Tree) (n : ℕ) (printed : Weight) (
       }
 
   pub union_gives : GivesReason (list w matroids) (union_of n printed parts levels)
-  union_gives = (
-    All-cons (Holds problem answer) allowed (flat_map each_level levels) (right.0, (is.right.are, is.priced))
+  union_gives = λ told. (
+    All-cons (Holds problem answer) allowed (flat_map each_level levels) (right.0, is.right.are, is.priced)
         (all_in_all each_level (Holds problem answer) levels level_holds),
     record {
       says_allowed = (0, omega arith, refl);
@@ -151,10 +153,10 @@ module _ (w : List Weight) (matroid : Tree) (n : ℕ) (valid : IsValid (list w (
   lp = (rules_are_matroids single valid).each 0 (omega arith)
 
   pub no_rank_gives : IsRight (list w (matroid ∷ [])) (pack_any n) → GivesReason (list w (matroid ∷ [])) (pack_any n)
-  no_rank_gives right =
+  no_rank_gives right = λ told.
       let none : rank p (all_below (length w)) ≡ 0 = subst (λ m. rank p (all_below m) ≡ 0) right.0 right.1 in (
         all_one (Holds single (pack_any n)) (at_most 0 (all_below (length w)) 0)
-            (subst (AllowsAtMost (length w) p (all_below (length w))) none (allows_rank lp (all_below (length w)) (IsSet-all_below (length w)))),
+            (omega arith, subst (AllowsAtMost (length w) p (all_below (length w))) none (allows_rank lp (all_below (length w)) (IsSet-all_below (length w)))),
         (0, omega arith, refl),
       )
 
@@ -179,12 +181,12 @@ module _ (w : List Weight) (matroid : Tree) (n : ℕ) (valid : IsValid (list w (
 
   pub packing_gives : (bases : List (List ℕ)) (cut : List ℕ) → IsRight (list w (matroid ∷ [])) (pack n bases cut)
       → GivesReason (list w (matroid ∷ [])) (pack n bases cut)
-  packing_gives bases cut right =
+  packing_gives bases cut right = λ told.
       let is : IsRightPacking (length w) p bases cut = subst (λ m. IsRightPacking m p bases cut) right.0 right.1 in
       let base = is.are.each 0 (some_base bases cut is) in
       let size = rank-maximal lp (all_below (length w)) (part_at bases 0) (IsRising-all_below (length w)) (IsMaximal-base lp (part_at bases 0) base) in (
         all_three (Holds single (pack n bases cut)) allowed (at_most 0 cut (rank p cut)) (full (part_at bases 0))
-            (right.0, is.are) (allows_rank lp cut is.set) base,
+            (right.0, is.are) (omega arith, allows_rank lp cut is.set) (refl, base),
         record {
           says_allowed = (0, omega arith, refl);
           cut = cut;
@@ -211,25 +213,23 @@ module _ (w : List Weight) (matroid : Tree) (n : ℕ) (valid : IsValid (list w (
           omega arith
 
   pub never_gives : (loop_at : ℕ) → IsRight (list w (matroid ∷ [])) (cover_never n loop_at) → GivesReason (list w (matroid ∷ [])) (cover_never n loop_at)
-  never_gives loop_at right =
+  never_gives loop_at right = λ told.
       let loop : IsLoop (length w) p loop_at = subst (λ m. IsLoop m p loop_at) right.0 right.1 in
       let set : IsSet (length w) (loop_at ∷ []) = record { rising = record { rises = (omega arith, tt) }; below = (loop.0, tt) } in (
-        all_two (Holds single (cover_never n loop_at)) allowed (at_most 0 (loop_at ∷ []) 0) (right.0, λ k rung at. absurd (nowhere at))
-            (loop_allows_none loop_at loop set),
+        all_two (Holds single (cover_never n loop_at)) allowed (at_most 0 (loop_at ∷ []) 0) right.0
+            (omega arith, loop_allows_none loop_at loop set),
         ((0, omega arith, refl), loop_at, loop.0, (1, omega arith, refl)),
       )
-    where
-      nowhere : {A : Type 0} {x : A} → None ≡ Some x → ⊥
-      nowhere e = cc
 
   pub covering_gives : (sets : List (List ℕ)) (cut : Option (List ℕ)) → IsRight (list w (matroid ∷ [])) (cover n sets cut)
       → GivesReason (list w (matroid ∷ [])) (cover n sets cut)
-  covering_gives sets None right =
+  covering_gives sets None right = λ told.
       let is : IsRightCovering (length w) p sets None = subst (λ m. IsRightCovering m p sets None) right.0 right.1 in
       (all_one (Holds single (cover n sets None)) allowed (right.0, is.cover), ((0, omega arith, refl), inl is.least))
-  covering_gives sets (Some cut) right =
+  covering_gives sets (Some cut) right = λ told.
       let is : IsRightCovering (length w) p sets (Some cut) = subst (λ m. IsRightCovering m p sets (Some cut)) right.0 right.1 in (
-        all_two (Holds single (cover n sets (Some cut))) allowed (at_most 0 cut (rank p cut)) (right.0, is.cover) (allows_rank lp cut is.least.1.set),
+        all_two (Holds single (cover n sets (Some cut))) allowed (at_most 0 cut (rank p cut)) (right.0, is.cover)
+            (omega arith, allows_rank lp cut is.least.1.set),
         (
           (0, omega arith, refl),
           inr (record { cut = cut; most = rank p cut; says_most = (1, omega arith, refl); long = is.least.1.long }),

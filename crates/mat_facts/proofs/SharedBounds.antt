@@ -1,8 +1,8 @@
 -- Shares and terms bound what a set weighs that each of some rules allows. The terms are those of one size: a smaller set takes the first of
 -- them, and a larger one takes the last once more for each further element.
 use Rattle.mat_facts.proofs.Common.{◌≡◌, ◌<◌, ◌≤◌, ◌-◌, ℕ, Bool, true, false, cond, ltb, List, length, refl, sym, ap, ◌∙◌, subst, arith, lt-ltb, ltb-false, ltb-true, false_from_ne_true, IsSet, ◌≼◌, weight, weight_at, weight_sum, zero_weight, Weight, below_member, at_most_same, at_most_trans}
-use Rattle.mat_facts.proofs.Common.{weight_sum-same, count_above, list_at, step_at, sum_of_first}
-use Rattle.mat_facts.proofs.BoundedSums.{weighs_at_most}
+use Rattle.mat_facts.proofs.Common.{weight_sum-same, is_below, length-filter, AddUp, HasFewAbove, list_at, step_at, sum_of_first}
+use Rattle.mat_facts.proofs.BoundedSums.{count_above, weighs_at_most}
 use Rattle.mat_facts.proofs.TermSums.{sum_falls, sum_rises, sums_agree, sums_exchange, sums_grow, weight_of_sums}
 
 -- ---- the number of a term, or of the last one
@@ -35,22 +35,27 @@ last_inside j l size some e = by (ltb l j) refl
     by false f = omega arith
 
 module _ (n rules : ℕ) (rule : ℕ → List ℕ → Bool) (w : List Weight) (shares terms : List (List Weight))
-    (add_up : (e : ℕ) → e < n → sum_of_first (λ i. weight_at (list_at shares i) e) rules ≡ weight_at w e)
-    (few : (i : ℕ) → i < rules → (X : List ℕ) → rule i X ≡ true → (l : ℕ) → l < length (list_at terms i)
-    → count_above (weight_at (list_at shares i)) (weight_at (list_at terms i) l) X ≤ l) where
+    (add_up : AddUp n rules w shares) (each : (i : ℕ) → i < rules → HasFewAbove n (rule i) (list_at shares i) (list_at terms i)) where
+  few : (i : ℕ) → i < rules → (X : List ℕ) → rule i X ≡ true → (l : ℕ) → l < length (list_at terms i)
+      → count_above (weight_at (list_at shares i)) (weight_at (list_at terms i) l) X ≤ l
+  few i under X ok l inside =
+      let most = (each i under).few X ok l inside in
+      let same = length-filter (λ x. is_below (weight_at (list_at terms i) l) (weight_at (list_at shares i) x)) X in
+      omega arith
+
   -- the terms that are taken may be any of no higher number
   pub by_terms : (pick : ℕ → ℕ) (m : ℕ) (X : List ℕ) → IsSet n X → ((i : ℕ) → i < rules → rule i X ≡ true) → length X ≡ m
       → ((l : ℕ) → l < m → pick l ≤ l) → ((i l : ℕ) → i < rules → l < m → pick l < length (list_at terms i))
       → weight w X ≼ sum_of_first (λ l. step_at terms rules (pick l)) m
   by_terms pick m X set all size low inside =
       let as_sums : weight w X ≡ weight_sum (λ x. sum_of_first (λ i. weight_at (list_at shares i) x) rules) X =
-      weight_sum-same (weight_at w) (λ x. sum_of_first (λ i. weight_at (list_at shares i) x) rules) X (λ x h. sym (add_up x (below_member set h))) in
+      weight_sum-same (weight_at w) (λ x. sum_of_first (λ i. weight_at (list_at shares i) x) rules) X (λ x h. sym (add_up.sums x (below_member set h))) in
       let by_rules = weight_of_sums (λ i x. weight_at (list_at shares i) x) rules X in
-      let each = sums_grow (λ i. weight_sum (weight_at (list_at shares i)) X) (λ i. sum_of_first (λ l. weight_at (list_at terms i) (pick l)) m) rules
+      let grown = sums_grow (λ i. weight_sum (weight_at (list_at shares i)) X) (λ i. sum_of_first (λ l. weight_at (list_at terms i) (pick l)) m) rules
       (λ i under. weighs_at_most (weight_at (list_at shares i)) (λ l. weight_at (list_at terms i) (pick l)) m X size
       (λ l less. let count = few i under X (all i under) (pick l) (inside i l under less) in let le = low l less in omega arith)) in
       let by_columns = sums_exchange (λ i l. weight_at (list_at terms i) (pick l)) rules m in
-      at_most_trans _ _ _ (at_most_same _ _ (as_sums ∙ by_rules)) (at_most_trans _ _ _ each (at_most_same _ _ by_columns))
+      at_most_trans _ _ _ (at_most_same _ _ (as_sums ∙ by_rules)) (at_most_trans _ _ _ grown (at_most_same _ _ by_columns))
 
   -- terms for j elements that add up to at most this much
   module _ (j : ℕ) (most : Weight) (long : (i : ℕ) → i < rules → length (list_at terms i) ≡ j)

@@ -1,7 +1,7 @@
 -- Facts suffice for answers on graphs: that there are no such trees or arborescences, and that an arborescence costs least.
-use Rattle.mat_facts.proofs.Common.{◌≡◌, ◌<◌, ◌-◌, ℕ, true, false, ◌⊎◌, List, length, get_or, ap, ◌∙◌, arith, and_from, false_from_ne_true, lt-ltb, ints, ends_of, entering, enters, IsSpanningArborescence, all_below, is_member, negated, Weight, is_member-entering, unentered_has_none}
+use Rattle.mat_facts.proofs.Common.{◌≡◌, ◌<◌, ◌-◌, ℕ, true, false, List, length, get_or, ap, ◌∙◌, arith, and_from, false_from_ne_true, lt-ltb, ints, ends_of, entering, enters, IsSpanningArborescence, all_below, is_member, negated, Weight, is_member-entering, unentered_has_none}
 use Rattle.mat_facts.proofs.Common.{is_member-all_below, some_from_member, pairs, is_graphic, AreTrees, is_entering_once, common_from_arborescence, AreDisjointArborescences, missing_colours_exclude, graph, rooted, coloured, IsValid, Certificate, arbor, IsLeastArborescence, coloured_is_graph}
-use Rattle.mat_facts.proofs.Common.{graph_is_graph, rooted_is_graph, root_is_below, Fact, allowed, groups, between, falls_apart, without_root, entered_by, AreGroups, Holds, BoundsSize, IsNothing, ShowsNoArborescences, ShowsNoRainbowTree, ShowsNoTrees}
+use Rattle.mat_facts.proofs.Common.{graph_is_graph, rooted_is_graph, root_is_below, Fact, allowed, between, falls_apart, without_root, entered_by, Holds, ShowsNoArborescences, ShowsNoCheaper, ShowsNoRainbowTree, ShowsNoTrees}
 use Rattle.std.specs.List.{All, Contains}
 use Rattle.mat_packing.proofs.Partitions.{few_trees}
 use Rattle.mat_branch.proofs.Packing.{seldom_entered_has_none}
@@ -16,12 +16,11 @@ pub no_trees : (vertices : ℕ) (edges : List (ℕ × ℕ)) (answer : Certificat
     → (others : List (List ℕ)) → AreTrees vertices (length edges) (ends_of edges) others → length others < k
 no_trees vertices edges answer facts valid hold k s =
     let g = graph_is_graph vertices edges valid in
-    let are : AreGroups vertices s.gs = said (graph vertices edges) answer facts valid hold (groups s.gs) s.says_groups in
-    let crossing = said (graph vertices edges) answer facts valid hold (between s.gs s.edges) s.says_between in
+    let says = said (graph vertices edges) answer facts valid hold (between s.groups s.edges) s.says_between in
     let few = s.few in
-    let count = ap length crossing in
-    few_trees (ends_of edges) vertices (length edges) (λ e small. (g.first e small, g.second e small)) k s.gs
-    (record { filled = are.filled; below = are.below; once = are.once; few = omega arith })
+    let count = ap length says.1 in
+    few_trees (ends_of edges) vertices (length edges) (λ e small. (g.first e small, g.second e small)) k s.groups
+    (record { filled = says.0.filled; below = says.0.below; once = says.0.once; few = omega arith })
 
 module _ (vertices root : ℕ) (arcs : List (ℕ × ℕ)) (costs : List Weight) (answer : Certificate) (facts : List Fact)
     (valid : IsValid (rooted vertices root arcs costs)) (hold : All (Holds (rooted vertices root arcs costs) answer) facts) where
@@ -56,24 +55,24 @@ module _ (vertices root : ℕ) (arcs : List (ℕ × ℕ)) (costs : List Weight) 
 module _ (vertices root : ℕ) (arcs : List (ℕ × ℕ)) (costs : List Weight) (n : ℕ) (cost : Weight) (tree : List ℕ) (first second : List Weight)
     (facts : List Fact) (valid : IsValid (rooted vertices root arcs costs))
     (hold : All (Holds (rooted vertices root arcs costs) (arbor n cost tree first second)) facts) where
-  pub least_shown : Contains facts allowed → IsNothing (vertices - 1) (negated cost) ⊎ BoundsSize (rooted vertices root arcs costs) facts (vertices - 1) (negated cost)
+  pub least_shown : Contains facts allowed → ShowsNoCheaper (rooted vertices root arcs costs) vertices facts cost
       → IsLeastArborescence vertices arcs costs root cost tree
   least_shown says b =
       let problem = rooted vertices root arcs costs in
       let answer = arbor n cost tree first second in
-      let is = (said problem answer facts valid hold allowed says).1 in
+      let is = said problem answer facts valid hold allowed says in
       let g = rooted_is_graph vertices root arcs costs valid in
       let small = root_is_below vertices root arcs costs valid in
       record {
-        spanning = is.0;
-        priced = is.1;
+        spanning = is.1;
+        priced = is.2;
         least = λ other spans.
             let common = common_from_arborescence vertices arcs root g small other spans in
             let most = size_is_bounded problem answer facts valid hold (vertices - 1) (negated cost) b other
             (both_allow (is_graphic (length arcs) (ends_of arcs)) (is_entering_once (length arcs) vertices (ends_of arcs) root) other common.0 common.1)
             (let size = spans.size in omega arith) in
             let there = negated_weight arcs costs valid.4 other spans.set in
-            let here = is.1 in
+            let here = is.2 in
             omega (arith, ints, pairs);
       }
 

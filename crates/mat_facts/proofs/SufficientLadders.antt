@@ -48,7 +48,7 @@ assignment_shown rows columns cells w n r c rungs cut facts valid hold s =
     (is_once (length cells) rows (row_at cells)) (is_once (length cells) columns (column_at cells))
     (both_allow (is_once (length cells) rows (row_at cells)) (is_once (length cells) columns (column_at cells)))
     (λ X all. (all 0 (omega arith), all 1 (omega arith))) rungs
-    (said (table rows columns cells w) (assign n r c rungs cut) facts valid hold allowed s.says_allowed).1 s
+    (said (table rows columns cells w) (assign n r c rungs cut) facts valid hold allowed s.says_allowed).3 s
 
 module _ (vertices colours : ℕ) (edges : List (ℕ × ℕ)) (colour_of : List ℕ) (w : List Weight) where
   abbrev colour : ℕ → ℕ
@@ -65,7 +65,7 @@ module _ (vertices colours : ℕ) (edges : List (ℕ × ℕ)) (colour_of : List 
       let best : IsOptimalLadder p q w rungs =
       ladder_shown (coloured vertices colours edges colour_of w) (rainbow n v c rungs cut missing) facts valid hold p q
       (both_allow p q) (λ X all. (all 0 (omega arith), all 1 (omega arith))) rungs
-      (said (coloured vertices colours edges colour_of w) (rainbow n v c rungs cut missing) facts valid hold allowed s.says_allowed).1 s in
+      (said (coloured vertices colours edges colour_of w) (rainbow n v c rungs cut missing) facts valid hold allowed s.says_allowed).3 s in
       record {
         ladder = best;
         none = λ short X tree.

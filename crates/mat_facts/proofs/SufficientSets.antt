@@ -28,7 +28,7 @@ union_shown w matroids n printed parts levels facts valid hold s =
     let tests = map is_independent matroids in
     let laws = rules_are_matroids problem valid in
     let tell = said problem answer facts valid hold in
-    let are : AreParts tests parts = (tell allowed s.says_allowed).1.0 in (
+    let are : AreParts tests parts = (tell allowed s.says_allowed).1 in (
       are,
       right_is_best laws w refl parts s.levels (record {
         are = are;
@@ -37,7 +37,8 @@ union_shown w matroids n printed parts levels facts valid hold s =
             let b = s.each j l in
             let cut = (level_at s.levels j).cut in
             level_cut (length w) tests w parts (level_at s.levels j).at cut (λ i. get_or b.most i 0) b.held laws are (some_rule problem valid) b.inside
-            (λ i inside. nothing_or cut (test_at tests i) (get_or b.most i 0) (λ some. tell (at_most i cut (get_or b.most i 0)) (b.says_most some i inside))) (tell (in_parts (level_at s.levels j).at b.held) b.says_held) b.enough;
+            (λ i inside. nothing_or cut (test_at tests i) (get_or b.most i 0) (λ some. (tell (at_most i cut (get_or b.most i 0)) (b.says_most some i inside)).1))
+            (tell (in_parts (level_at s.levels j).at b.held) b.says_held) b.enough;
       }),
     )
 
@@ -62,7 +63,7 @@ module _ (w : List Weight) (matroid : Tree) (answer : Certificate) (facts : List
   tell = said (list w (matroid ∷ [])) answer facts valid hold
 
   few_in : (S : List ℕ) (c : ℕ) → Contains facts (at_most 0 S c) → rank p S ≤ c
-  few_in S c at = rank_at_most laws S c (tell (at_most 0 S c) at)
+  few_in S c at = rank_at_most laws S c (tell (at_most 0 S c) at).1
 
   pub none_allowed : Contains facts (at_most 0 (all_below n) 0) → (I : List ℕ) → p I ≡ true → I ≡ []
   none_allowed at I ok = let few = few_in (all_below n) 0 at in rank_none laws (omega arith) I ok
@@ -71,11 +72,11 @@ module _ (w : List Weight) (matroid : Tree) (answer : Certificate) (facts : List
       → AreMostBases n p bases
   no_more_bases bases are s = record {
     are = are;
-    most = packing_is_most laws bases s.cut (record { are = are; set = (tell (at_most 0 s.cut s.most) s.says_most).set; short = short });
+    most = packing_is_most laws bases s.cut (record { are = are; set = (tell (at_most 0 s.cut s.most) s.says_most).1.set; short = short });
   }
     where
       base : IsBase n p s.base
-      base = tell (full s.base) s.says_base
+      base = (tell (full s.base) s.says_base).1
 
       short : length (minus (all_below n) s.cut) < (length bases + 1) * (rank p (all_below n) - rank p s.cut)
       short =
@@ -89,7 +90,7 @@ module _ (w : List Weight) (matroid : Tree) (answer : Certificate) (facts : List
   no_fewer_sets sets is (inl none) = record { cover = is; fewest = λ others c. omega arith }
   no_fewer_sets sets is (inr s) = record {
     cover = is;
-    fewest = covering_is_least laws sets s.cut (record { set = (tell (at_most 0 s.cut s.most) s.says_most).set; long = long });
+    fewest = covering_is_least laws sets s.cut (record { set = (tell (at_most 0 s.cut s.most) s.says_most).1.set; long = long });
   }
     where
       long : (length sets - 1) * rank p s.cut < length s.cut
@@ -104,7 +105,7 @@ module _ (w : List Weight) (matroid : Tree) (answer : Certificate) (facts : List
       dependent : p (e ∷ []) ≡ true → ⊥
       dependent ok =
           let one = (laws.sets (e ∷ []) ok).rising in
-          let h = tell (at_most 0 (e ∷ []) 0) at in
+          let h = (tell (at_most 0 (e ∷ []) 0) at).1 in
           let most = h.most (e ∷ []) ok in
           let same = ap length (intersection-subset (e ∷ []) (e ∷ []) one (IsSubset-refl (e ∷ []))) in
           absurd (omega arith)

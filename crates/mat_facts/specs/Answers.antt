@@ -8,12 +8,12 @@ use Rattle.mat_packing.specs.Packings.{AreBases, IsCover}
 use Rattle.mat_packing.specs.Trees.{AreTrees}
 use Rattle.mat_branch.specs.Arborescences.{AreDisjointArborescences}
 use Rattle.mat_any.specs.Trees.{is_independent}
-use Rattle.mat_problem.specs.Instances.{Instance, list, graph, rooted}
+use Rattle.mat_problem.specs.Instances.{Instance, pair, list, graph, rooted, coloured, table}
 use Rattle.mat_cert.specs.Certificates.{Certificate, intersect, best, union_of, pack_any, pack, cover_never, cover, trees, trees_none}
 use Rattle.mat_cert.specs.Certificates.{arbor, unreached, disjoint, disjoint_none, rainbow, assign}
 use Rattle.mat_cert.specs.declared.answer.PlainRung.{PlainRung}
 use Rattle.mat_cert.specs.declared.answer.PricedRung.{PricedRung}
-use Rattle.mat_facts.specs.Problems.{AllAllow, size_of, weights_of}
+use Rattle.mat_facts.specs.Problems.{AllAllow, weights_of}
 
 -- the set of a rung and its weight, without its split
 abbrev pub plain_rung : PricedRung → PlainRung
@@ -27,15 +27,6 @@ rungs_of (rainbow n v c rungs cut missing) = map plain_rung rungs
 rungs_of (assign n r c rungs cut) = map plain_rung rungs
 rungs_of answer = []
 
--- the parts, bases or trees of an answer, or the sets that cover the elements
-abbrev pub parts_of : Certificate → List (List ℕ)
-parts_of (union_of n weight parts levels) = parts
-parts_of (pack n bases cut) = bases
-parts_of (cover n sets cut) = sets
-parts_of (trees n sets) = sets
-parts_of (disjoint n sets) = sets
-parts_of answer = []
-
 -- a set of k elements that all rules allow, with its weight
 pub record IsAllowedRung (problem : Instance) (k : ℕ) (rung : PlainRung) : Type 0 where
   pub size : length rung.set ≡ k
@@ -46,38 +37,27 @@ pub record IsAllowedRung (problem : Instance) (k : ℕ) (rung : PlainRung) : Typ
 abbrev pub AreAllowedRungs : Instance → List PlainRung → Type 0
 AreAllowedRungs problem rungs = (k : ℕ) (rung : PlainRung) → slice_get rungs k ≡ Some rung → IsAllowedRung problem k rung
 
--- how many elements the answer says that there are
-abbrev pub elements_in : Certificate → ℕ
-elements_in (intersect n rungs cut) = n
-elements_in (best n rungs) = n
-elements_in (union_of n weight parts levels) = n
-elements_in (pack_any n) = n
-elements_in (pack n bases cut) = n
-elements_in (cover_never n loop_at) = n
-elements_in (cover n sets cut) = n
-elements_in (trees n sets) = n
-elements_in (trees_none n k v classes) = n
-elements_in (arbor n cost tree first second) = n
-elements_in (unreached n v set) = n
-elements_in (disjoint n sets) = n
-elements_in (disjoint_none n k v set) = n
-elements_in (rainbow n v c rungs cut missing) = n
-elements_in (assign n r c rungs cut) = n
-
--- the sets of the answer are of the kind that was asked for, be there better ones or not, and its weights are theirs. An answer that there are
--- none has no sets, and of one that the problem does not take no sets are looked at but those of each size
-abbrev pub IsOfKind : Instance → Certificate → Type 0
-IsOfKind (list w matroids) (union_of n printed parts levels) =
-    AreParts (map is_independent matroids) parts × (printed ≡ weight w (family_union parts))
-IsOfKind (list w (matroid ∷ [])) (pack n bases cut) = AreBases (length w) (is_independent matroid) bases
-IsOfKind (list w (matroid ∷ [])) (cover n sets cut) = IsCover (length w) (is_independent matroid) sets
-IsOfKind (graph vertices edges) (trees n sets) = AreTrees vertices (length edges) (ends_of edges) sets
-IsOfKind (rooted vertices root arcs costs) (arbor n cost tree first second) =
-    IsSpanningArborescence vertices (length arcs) (ends_of arcs) root tree × (cost ≡ weight costs tree)
-IsOfKind (rooted vertices root arcs costs) (disjoint n sets) =
-    AreDisjointArborescences vertices (length arcs) (ends_of arcs) root (length sets) sets
-IsOfKind problem answer = AreAllowedRungs problem (rungs_of answer)
-
--- and its number of elements is that of the problem
+-- the answer has the numbers of the problem, its sets are of the kind that was asked for, be there better ones or not, and its weights are theirs.
+-- An answer that there are none has no sets
 abbrev pub IsAllowed : Instance → Certificate → Type 0
-IsAllowed problem answer = (elements_in answer ≡ size_of problem) × IsOfKind problem answer
+IsAllowed (pair w first second) (intersect n rungs cut) = (n ≡ length w) × AreAllowedRungs (pair w first second) (map plain_rung rungs)
+IsAllowed (list w matroids) (union_of n printed parts levels) =
+    (n ≡ length w) × AreParts (map is_independent matroids) parts × (printed ≡ weight w (family_union parts))
+IsAllowed (list w (matroid ∷ [])) (best n rungs) = (n ≡ length w) × AreAllowedRungs (list w (matroid ∷ [])) rungs
+IsAllowed (list w (matroid ∷ [])) (pack_any n) = n ≡ length w
+IsAllowed (list w (matroid ∷ [])) (pack n bases cut) = (n ≡ length w) × AreBases (length w) (is_independent matroid) bases
+IsAllowed (list w (matroid ∷ [])) (cover_never n loop_at) = n ≡ length w
+IsAllowed (list w (matroid ∷ [])) (cover n sets cut) = (n ≡ length w) × IsCover (length w) (is_independent matroid) sets
+IsAllowed (graph vertices edges) (trees n sets) = (n ≡ length edges) × AreTrees vertices (length edges) (ends_of edges) sets
+IsAllowed (graph vertices edges) (trees_none n k v classes) = (n ≡ length edges) × (v ≡ vertices)
+IsAllowed (rooted vertices root arcs costs) (arbor n cost tree first second) =
+    (n ≡ length arcs) × IsSpanningArborescence vertices (length arcs) (ends_of arcs) root tree × (cost ≡ weight costs tree)
+IsAllowed (rooted vertices root arcs costs) (unreached n v set) = (n ≡ length arcs) × (v ≡ vertices)
+IsAllowed (rooted vertices root arcs costs) (disjoint n sets) =
+    (n ≡ length arcs) × AreDisjointArborescences vertices (length arcs) (ends_of arcs) root (length sets) sets
+IsAllowed (rooted vertices root arcs costs) (disjoint_none n k v set) = (n ≡ length arcs) × (v ≡ vertices)
+IsAllowed (coloured vertices colours edges colour_of w) (rainbow n v c rungs cut missing) =
+    (n ≡ length edges) × (v ≡ vertices) × (c ≡ colours) × AreAllowedRungs (coloured vertices colours edges colour_of w) (map plain_rung rungs)
+IsAllowed (table rows columns cells w) (assign n r c rungs cut) =
+    (n ≡ length cells) × (r ≡ rows) × (c ≡ columns) × AreAllowedRungs (table rows columns cells w) (map plain_rung rungs)
+IsAllowed problem answer = ⊥

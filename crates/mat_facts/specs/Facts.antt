@@ -1,11 +1,10 @@
--- What can be said of a problem and an answer to it, one fact a sentence. Rules are counted from 0, in the order of the problem; a rule past the
--- last allows nothing.
+-- What can be said of a problem and an answer to it, one fact a sentence. Rules are counted from 0, in the order of the problem.
 use Rattle.std.specs.Prelude.{ℕ, List}
 use Rattle.mat_sets.specs.declared.weight.Weight.{Weight}
 
 -- a fact; what each says stands in `Holding`
 pub data Fact : Type 0 where
-  -- the answer has as many elements as the problem, and its sets are of the kind that was asked for, be there better ones or not
+  -- the answer has the numbers of the problem, and its sets are of the kind that was asked for, be there better ones or not
   allowed : Fact
   -- rule i allows at most so many of these elements
   at_most : ℕ → List ℕ → ℕ → Fact
@@ -14,13 +13,11 @@ pub data Fact : Type 0 where
   -- a set that rule i allows has no member with a share above the first of these terms, at most one above the second, at most two above the
   -- third, and so on
   few_above : ℕ → List Weight → List Weight → Fact
-  -- rule 0 allows this set, and no other element can be added to it
+  -- the one rule allows this set, and no other element can be added to it
   full : List ℕ → Fact
   -- so many of the elements that weigh this or more are in parts
   in_parts : Weight → ℕ → Fact
-  -- these groups are not empty, and each vertex is in exactly one
-  groups : List (List ℕ) → Fact
-  -- the edges that do not have both ends in one of these groups are these
+  -- of groups that are not empty, where each vertex is in exactly one: the edges between different groups are these
   between : List (List ℕ) → List ℕ → Fact
   -- without the edges of these colours the vertices fall into so many groups
   falls_apart : List ℕ → ℕ → Fact

@@ -54,27 +54,3 @@ weights_of (graph vertices edges) = []
 weights_of (rooted vertices root arcs costs) = map negated costs
 weights_of (coloured vertices colours edges colour_of w) = w
 weights_of (table rows columns cells w) = w
-
--- how many vertices there are
-abbrev pub vertices_of : Instance → ℕ
-vertices_of (graph vertices edges) = vertices
-vertices_of (rooted vertices root arcs costs) = vertices
-vertices_of (coloured vertices colours edges colour_of w) = vertices
-vertices_of problem = 0
-
--- the two ends of each edge, or the tail and the head of each arc
-abbrev pub edges_of : Instance → List (ℕ × ℕ)
-edges_of (graph vertices edges) = edges
-edges_of (rooted vertices root arcs costs) = arcs
-edges_of (coloured vertices colours edges colour_of w) = edges
-edges_of problem = []
-
--- the root
-abbrev pub root_of : Instance → ℕ
-root_of (rooted vertices root arcs costs) = root
-root_of problem = 0
-
--- how many colours there are, and the colour of each edge
-abbrev pub colours_of : Instance → ℕ × List ℕ
-colours_of (coloured vertices colours edges colour_of w) = (colours, colour_of)
-colours_of problem = (0, [])

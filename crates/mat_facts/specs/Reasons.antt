@@ -21,7 +21,7 @@ use Rattle.mat_cert.specs.Certificates.{arbor, unreached, disjoint, disjoint_non
 use Rattle.mat_cert.specs.declared.answer.LevelLine.{LevelLine}
 use Rattle.mat_cert.specs.declared.answer.PlainRung.{PlainRung}
 use Rattle.mat_cert.specs.declared.answer.PricedRung.{PricedRung}
-use Rattle.mat_facts.specs.Facts.{Fact, allowed, at_most, shared, few_above, full, in_parts, groups, between, falls_apart, without_root, entered_by, none_gains}
+use Rattle.mat_facts.specs.Facts.{Fact, allowed, at_most, shared, few_above, full, in_parts, between, falls_apart, without_root, entered_by, none_gains}
 use Rattle.mat_facts.specs.Terms.{falling_terms}
 
 -- ---- what a size weighs at most
@@ -40,10 +40,6 @@ abbrev pub shares_of : PricedRung → List (List Weight)
 shares_of rung = rung.first ∷ rung.second ∷ []
 
 -- ---- ladders
-
--- which sizes a reason speaks of: each, or those for which this holds
-abbrev pub each_size : ℕ → Bool
-each_size k = true
 
 -- the sizes that show that the set of one size is heaviest of all, and that of the last heaviest of its size: these two, and those beside the first
 abbrev pub told_sizes : ℕ → ℕ → ℕ → Bool
@@ -125,8 +121,7 @@ reason_of told (list w (matroid ∷ [])) (pack n bases cut) =
 reason_of told (list w (matroid ∷ [])) (cover_never n loop_at) = allowed ∷ at_most 0 (loop_at ∷ []) 0 ∷ []
 reason_of told (list w (matroid ∷ [])) (cover n sets cut) = allowed ∷ cover_facts (is_independent matroid) cut
 reason_of told (graph vertices edges) (trees n sets) = allowed ∷ []
-reason_of told (graph vertices edges) (trees_none n k v classes) =
-    groups classes ∷ between classes (crossing (length edges) (ends_of edges) classes) ∷ []
+reason_of told (graph vertices edges) (trees_none n k v classes) = between classes (crossing (length edges) (ends_of edges) classes) ∷ []
 reason_of told (rooted vertices root arcs costs) (arbor n cost tree first second) =
     allowed ∷ size_facts (first ∷ second ∷ []) tree ++ costs_facts costs
 reason_of told (rooted vertices root arcs costs) (unreached n v set) = entered_facts arcs set

@@ -11,9 +11,9 @@ use Rattle.mat_problem.specs.Instances.{Instance, pair, list, graph, rooted, col
 use Rattle.mat_cert.specs.Certificates.{Certificate, intersect, best, union_of, pack_any, pack, cover_never, cover, trees, trees_none}
 use Rattle.mat_cert.specs.Certificates.{arbor, unreached, disjoint, disjoint_none, rainbow, assign}
 use Rattle.mat_cert.specs.declared.answer.PlainRung.{PlainRung}
-use Rattle.mat_facts.specs.Facts.{Fact, allowed, at_most, shared, few_above, full, in_parts, groups, between, falls_apart, without_root, entered_by, none_gains}
+use Rattle.mat_facts.specs.Facts.{Fact, allowed, at_most, shared, few_above, full, in_parts, between, falls_apart, without_root, entered_by, none_gains}
 use Rattle.mat_facts.specs.Answers.{rungs_of}
-use Rattle.mat_facts.specs.Problems.{rule_count, size_of, vertices_of, weights_of}
+use Rattle.mat_facts.specs.Problems.{rule_count, size_of, weights_of}
 use Rattle.mat_facts.specs.Terms.{count_of_first, list_at, step_at, sum_of_first}
 
 -- ---- sets that all rules allow
@@ -31,6 +31,10 @@ pub record BoundsSize (problem : Instance) (facts : List Fact) (k : ℕ) (most :
 -- of 0 elements: the empty set weighs nothing, which is at most this
 abbrev pub IsNothing : ℕ → Weight → Type 0
 IsNothing k most = (k ≡ 0) × (zero_weight ≼ most)
+
+-- no set of k elements that all rules allow weighs more than this; of the empty set nothing needs to be said
+abbrev pub ShowsNoHeavier : Instance → List Fact → ℕ → Weight → Type 0
+ShowsNoHeavier problem facts k most = IsNothing k most ⊎ BoundsSize problem facts k most
 
 -- what m elements and fewer weigh at most: such terms for m of them, of which no step is below 0
 pub record BoundsSmaller (problem : Instance) (facts : List Fact) (m : ℕ) (most : Weight) : Type 0 where
@@ -52,26 +56,25 @@ pub record DividesElements (problem : Instance) (facts : List Fact) (m : ℕ) : 
   pub few : count_of_first (slice_index most) (rule_count problem) < m
 
 -- to a set of fewer than m elements, which the one rule allows, no element can be added
-pub record HasFullSet (problem : Instance) (facts : List Fact) (m : ℕ) : Type 0 where
-  pub one_rule : rule_count problem ≡ 1
+pub record HasFullSet (facts : List Fact) (m : ℕ) : Type 0 where
   pub set : List ℕ
   pub says_full : Contains facts (full set)
   pub few : length set < m
 
 -- no set that all rules allow has m elements or more: there are fewer elements at all, or one of the two above
 abbrev pub ShowsNoLarger : Instance → List Fact → ℕ → Type 0
-ShowsNoLarger problem facts m = (size_of problem < m) ⊎ (DividesElements problem facts m ⊎ HasFullSet problem facts m)
+ShowsNoLarger problem facts m = (size_of problem < m) ⊎ (DividesElements problem facts m ⊎ HasFullSet facts m)
 
 -- no set of any size weighs more than this: not of k elements, not of fewer, and not of more. No law on how the greatest weights grow is needed
 pub record BoundsEachSize (problem : Instance) (facts : List Fact) (k : ℕ) (most : Weight) : Type 0 where
-  pub same : IsNothing k most ⊎ BoundsSize problem facts k most
+  pub same : ShowsNoHeavier problem facts k most
   pub smaller : IsNothing (k - 1) most ⊎ BoundsSmaller problem facts (k - 1) most
   pub larger : ShowsNoLarger problem facts (suc k) ⊎ BoundsLarger problem facts (suc k) most
 
 -- an answer with a set of each size: each is a heaviest one, and none is larger
 pub record ShowsEachRung (problem : Instance) (rungs : List PlainRung) (facts : List Fact) : Type 0 where
   pub says_allowed : Contains facts allowed
-  pub each : (k : ℕ) (rung : PlainRung) → slice_get rungs k ≡ Some rung → IsNothing k rung.weight ⊎ BoundsSize problem facts k rung.weight
+  pub each : (k : ℕ) (rung : PlainRung) → slice_get rungs k ≡ Some rung → ShowsNoHeavier problem facts k rung.weight
   pub larger : ShowsNoLarger problem facts (length rungs)
 
 -- ---- unions, packings and coverings
@@ -115,11 +118,10 @@ pub record ShowsNoFewerSets (problem : Instance) (facts : List Fact) (sets : ℕ
 
 -- k trees need more edges between the groups than there are
 pub record ShowsNoTrees (facts : List Fact) (k : ℕ) : Type 0 where
-  pub gs : List (List ℕ)
+  pub groups : List (List ℕ)
   pub edges : List ℕ
-  pub says_groups : Contains facts (groups gs)
-  pub says_between : Contains facts (between gs edges)
-  pub few : length edges < k * (length gs - 1)
+  pub says_between : Contains facts (between groups edges)
+  pub few : length edges < k * (length groups - 1)
 
 -- k arborescences need more arcs into some vertices than there are
 pub record ShowsNoArborescences (facts : List Fact) (k : ℕ) : Type 0 where
@@ -136,10 +138,14 @@ pub record ShowsNoRainbowTree (facts : List Fact) : Type 0 where
   pub says_groups : Contains facts (falls_apart colours count)
   pub few : length colours + 1 < count
 
--- no cost is below 0, and an arborescence costs at least this
-pub record ShowsCheapestReach (problem : Instance) (facts : List Fact) (cost : Weight) : Type 0 where
+-- no arborescence on so many vertices costs less than this
+abbrev pub ShowsNoCheaper : Instance → ℕ → List Fact → Weight → Type 0
+ShowsNoCheaper problem vertices facts cost = ShowsNoHeavier problem facts (vertices - 1) (negated cost)
+
+-- and no cost is below 0
+pub record ShowsCheapestReach (problem : Instance) (vertices : ℕ) (facts : List Fact) (cost : Weight) : Type 0 where
   pub says_none_gains : Contains facts none_gains
-  pub bound : IsNothing (vertices_of problem - 1) (negated cost) ⊎ BoundsSize problem facts (vertices_of problem - 1) (negated cost)
+  pub bound : ShowsNoCheaper problem vertices facts cost
 
 -- ---- each form
 
@@ -157,7 +163,7 @@ Suffice (list w (matroid ∷ [])) (cover n sets cut) facts =
 Suffice (graph vertices edges) (trees n sets) facts = Contains facts allowed
 Suffice (graph vertices edges) (trees_none n k v classes) facts = ShowsNoTrees facts k
 Suffice (rooted vertices root arcs costs) (arbor n cost tree first second) facts =
-    Contains facts allowed × (IsNothing (vertices - 1) (negated cost) ⊎ BoundsSize (rooted vertices root arcs costs) facts (vertices - 1) (negated cost))
+    Contains facts allowed × ShowsNoCheaper (rooted vertices root arcs costs) vertices facts cost
 Suffice (rooted vertices root arcs costs) (unreached n v set) facts = ShowsNoArborescences facts 1
 Suffice (rooted vertices root arcs costs) (disjoint n sets) facts = Contains facts allowed
 Suffice (rooted vertices root arcs costs) (disjoint_none n k v set) facts = ShowsNoArborescences facts k

@@ -5,6 +5,7 @@
 mod laws;
 
 pub use laws::{
-    facts_bound_a_size, facts_bound_all_sizes, facts_bound_each_size, facts_bound_reaching_sets,
-    facts_exclude_rainbow_trees, facts_suffice, right_answers_give_reasons, told_reasons_suffice,
+    facts_bound_a_size, facts_bound_all_weights, facts_bound_reaching_sets,
+    facts_exclude_larger_sets, facts_exclude_rainbow_trees, facts_suffice,
+    right_answers_give_reasons, told_reasons_suffice,
 };
