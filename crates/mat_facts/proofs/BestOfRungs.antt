@@ -2,13 +2,12 @@
 -- 0, since its set would weigh less otherwise; and the last step of the rung behind it is not above 0.
 use Rattle.mat_facts.proofs.Common.{◌≡◌, true, Bool, ◌<◌, ◌≤◌, ◌-◌, ◌⊎◌, ℕ, suc, List, [], ◌∷◌, length, Some, slice_get, inl, inr, refl, sym, ap, ◌∙◌, subst, arith, cases_lt, ints, slice_get_cases, slice_get_within, ◌⊕◌, ◌≼◌, weight, zero_weight, Weight, at_most_same, at_most_trans, pairs, Instance, IsValid}
 use Rattle.mat_facts.proofs.Common.{Certificate, PlainRung, AreAllowedRungs, Fact, allowed, few_above, shared, Holds, AllAllow, rule_at, rule_count, size_of, weights_of, BoundsEachSize, BoundsLarger, BoundsSize, BoundsSmaller, IsNothing, ShowsEachRung, ShowsNoLarger, list_at, step_at}
-use Rattle.mat_facts.proofs.Common.{sum_of_first}
 use Rattle.std.specs.List.{All, Contains}
 use Rattle.mat_facts.proofs.GivenBounds.{FallingBound}
 use Rattle.mat_facts.proofs.RulesOfProblems.{allowed_set}
 use Rattle.mat_facts.proofs.SharedBounds.{before_last, by_terms, last_from, last_inside, last_low, past_last}
 use Rattle.mat_facts.proofs.SufficientBounds.{said}
-use Rattle.mat_facts.proofs.TermSums.{sums_agree}
+use Rattle.mat_facts.proofs.TermSums.{sum_more, sum_of_first, sums_agree}
 
 -- each rung whose size is told bounds it by steps that fall, and none is larger
 pub record ShowsFallingRungs (told : ℕ → Bool) (problem : Instance) (rungs : List PlainRung) (facts : List Fact) : Type 0 where
@@ -70,6 +69,7 @@ module _ (problem : Instance) (answer : Certificate) (facts : List Fact) (valid 
           let own = picked j (suc j) v b.bound (last_from j) X all size (λ l h. last_low j l) (λ l h. last_inside j l j some refl) in
           let first = sums_agree (λ l. step (last_from j l)) step j (λ l h. ap step (before_last j l h)) in
           let last : step (last_from j j) ≡ step (j - 1) = ap step (past_last j j (omega arith)) in
+          let more = sum_more (λ l. step (last_from j l)) j in
           let sum : sum_of_first (λ l. step (last_from j l)) (suc j) ≡ sum_of_first step j ⊕ step (j - 1) = omega (arith, ints, pairs) in
           step_up v (sum_of_first step j) (step (j - 1)) b.bound.total
           (at_most_trans _ _ _ heavy (at_most_trans _ _ _ own (at_most_same _ _ sum)))
@@ -93,7 +93,8 @@ module _ (problem : Instance) (answer : Certificate) (facts : List Fact) (valid 
       last_down =
           let step = step_of b.bound in
           let own = picked (suc j) j v b.bound (λ l. l) X all size (λ l h. omega arith) (λ l h. omega arith) in
-          step_down v (sum_of_first step j) (step j) (at_most_trans _ _ _ heavy own) b.bound.total
+          step_down v (sum_of_first step j) (step j) (at_most_trans _ _ _ heavy own)
+          (at_most_trans _ _ _ (at_most_same _ _ (sym (sum_more step j))) b.bound.total)
 
   -- the heaviest of the rungs
   module _ (told : ℕ → Bool) (rungs : List PlainRung) (are : AreAllowedRungs problem rungs) (s : ShowsFallingRungs told problem rungs facts)

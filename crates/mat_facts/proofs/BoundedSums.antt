@@ -1,7 +1,8 @@
 -- A set of whose members at most l have more than the l-th of some terms weighs at most as much as these terms together: as long as there are
 -- members, one has at most the last term; it goes with that term. So no order of the members or of the terms is needed.
-use Rattle.mat_facts.proofs.Common.{◌≡◌, ◌<◌, ◌≤◌, ℕ, zero, suc, Bool, true, false, cond, List, [], ◌∷◌, length, refl, ap, arith, ints, ◌⊕◌, ◌≼◌, is_below, weight_sum, Weight, pairs, not_below_gives, sum_of_first}
+use Rattle.mat_facts.proofs.Common.{◌≡◌, ◌<◌, ◌≤◌, ℕ, zero, suc, Bool, true, false, cond, List, [], ◌∷◌, length, refl, ap, arith, ints, ◌⊕◌, ◌≼◌, is_below, weight_sum, Weight, pairs, not_below_gives}
 use Rattle.std.specs.List.{filter}
+use Rattle.mat_facts.proofs.TermSums.{sum_more, sum_none, sum_of_first}
 
 -- how many members of X have more than t
 abbrev pub count_above : (ℕ → Weight) → Weight → List ℕ → ℕ
@@ -59,7 +60,7 @@ take_low share t (x ∷ X) h = by (is_below t (share x)) refl h (λ l. take_low 
 
 pub weighs_at_most : (share term : ℕ → Weight) (m : ℕ) (X : List ℕ) → length X ≡ m
     → ((l : ℕ) → l < m → count_above share (term l) X ≤ l) → weight_sum share X ≼ sum_of_first term m
-weighs_at_most share term zero [] e h = omega (arith, ints)
+weighs_at_most share term zero [] e h = let none = sum_none term in omega (arith, ints, pairs)
 weighs_at_most share term zero (x ∷ X) e h = absurd (omega arith)
 weighs_at_most share term (suc m) X e h =
     let few = h m (omega arith) in
@@ -68,4 +69,5 @@ weighs_at_most share term (suc m) X e h =
     (λ l less. let all = h l (omega arith) in let fewer = taken.fewer (term l) in omega arith) in
     let low = taken.low in
     let weighs = taken.weighs in
+    let sum = sum_more term m in
     omega (arith, ints, pairs)

@@ -12,7 +12,7 @@ pub use Rattle.mat_sets.specs.Families.{indicator}
 unfoldable pub use Rattle.mat_sets.specs.Families.{family_union, multiplicity}
 pub use Rattle.mat_sets.specs.Graphs.{IsGraph, IsSpanningArborescence, IsUnentered, Reaches, ends_of, enters}
 unfoldable pub use Rattle.mat_sets.specs.Graphs.{entering}
-pub use Rattle.mat_sets.specs.Sets.{IsRising, IsSet, IsSubset, is_member}
+pub use Rattle.mat_sets.specs.Sets.{IsRising, IsSet, IsSubset, counted_from, is_member}
 unfoldable pub use Rattle.mat_sets.specs.Sets.{all_below, intersection, minus, with_one, without_one}
 pub use Rattle.mat_sets.specs.Weights.{is_below, negated, weight, weight_at, weight_sum, zero_weight, ◌≺◌, ◌≼◌, ◌⊕◌}
 pub use Rattle.mat_sets.specs.declared.weight.Weight.{Weight}
@@ -63,4 +63,4 @@ pub use Rattle.mat_facts.specs.Problems.{AllAllow, rule_at, rule_count, rules_of
 pub use Rattle.mat_facts.specs.Reasons.{are_costs, colours_facts, costs_facts, cut_facts, ladder_facts, last_facts, level_facts, level_most_facts, reason_of, rung_facts, shares_of, size_facts, sizes_facts, told_sizes, whole_facts}
 pub use Rattle.mat_facts.specs.Sufficing.{BoundsEachSize, BoundsLarger, BoundsLevel, BoundsSize, BoundsSmaller, DividesElements, IsNothing, ShowsCheapestReach, ShowsEachRung, ShowsNoArborescences, ShowsNoCheaper, ShowsNoFewerSets, ShowsNoHeavier, ShowsNoLarger, ShowsNoMoreBases, ShowsNoRainbowTree, ShowsNoTrees, ShowsUnion}
 pub use Rattle.mat_facts.specs.Sufficing.{Suffice}
-pub use Rattle.mat_facts.specs.Terms.{count_of_first, falling_terms, list_at, put_falling, step_at, sum_of_first}
+pub use Rattle.mat_facts.specs.Terms.{count_of_first, falling_terms, list_at, put_falling, step_at}

@@ -1,10 +1,10 @@
 -- Where facts of the given forms stand in a list, they bound sizes: of one rule, and of two.
 use Rattle.mat_facts.proofs.Common.{◌≡◌, ◌<◌, ◌≤◌, ◌+◌, ℕ, zero, suc, Bool, true, List, [], ◌∷◌, length, get_or, inl, inr, sym, ◌∙◌, subst, arith, cases_Bool, and_from, lt-ltb, not_from_false, ints, all_below, intersection, is_member, minus, IsSet, ◌⊕◌, ◌≼◌, weight, weight_at, Weight}
 use Rattle.mat_facts.proofs.Common.{is_member-all_below, is_member-minus, IsRising-intersection, intersection-left, intersection-right, pairs, IsMatroid, rank, rising, rank_is, Instance, AllowsAtMost, Fact, at_most, few_above, shared, rule_count, size_of, BoundsSize, DividesElements, count_of_first}
-use Rattle.mat_facts.proofs.Common.{falling_terms, list_at, step_at, sum_of_first}
+use Rattle.mat_facts.proofs.Common.{falling_terms, list_at, step_at}
 use Rattle.std.specs.List.{Contains}
 use Rattle.mat_facts.proofs.FallingTerms.{length-falling_terms, sum-falling_terms, terms_fall}
-use Rattle.mat_facts.proofs.TermSums.{sums_exchange, sums_grow}
+use Rattle.mat_facts.proofs.TermSums.{sum_of_first, sum_of_one, sum_of_two, sums_exchange, sums_grow}
 
 -- a rule allows at most the rank
 pub allows_rank : {n : ℕ} {p : List ℕ → Bool} → IsMatroid n p → (S : List ℕ) → IsSet n S → AllowsAtMost n p S (rank p S)
@@ -27,14 +27,15 @@ two_lists first second set = terms_of first set ∷ terms_of second set ∷ []
 
 pub total_of_one : (w : List Weight) (set : List ℕ) → sum_of_first (step_at (one_list w set) 1) (length set) ≡ weight w set
 total_of_one w set =
-    let turned = sums_exchange (λ i l. weight_at (list_at (one_list w set) i) l) 1 (length set) in
-    let own = sum-falling_terms (weight_at w) set in
-    omega (arith, ints, pairs)
+    let term = λ (i l : ℕ). weight_at (list_at (one_list w set) i) l in
+    sym (sums_exchange term 1 (length set)) ∙ sum_of_one (λ i. sum_of_first (term i) (length set)) ∙ sum-falling_terms (weight_at w) set
 
 pub total_of_two : (first second : List Weight) (set : List ℕ)
     → sum_of_first (step_at (two_lists first second set) 2) (length set) ≡ weight first set ⊕ weight second set
 total_of_two first second set =
-    let turned = sums_exchange (λ i l. weight_at (list_at (two_lists first second set) i) l) 2 (length set) in
+    let term = λ (i l : ℕ). weight_at (list_at (two_lists first second set) i) l in
+    let turned = sums_exchange term 2 (length set) in
+    let rows = sum_of_two (λ i. sum_of_first (term i) (length set)) in
     let one = sum-falling_terms (weight_at first) set in
     let other = sum-falling_terms (weight_at second) set in
     omega (arith, ints, pairs)

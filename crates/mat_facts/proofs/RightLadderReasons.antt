@@ -1,6 +1,6 @@
 -- Right ladders give reasons: of two matroids, of colours, of a table, and of one matroid.
-use Rattle.mat_facts.proofs.Common.{◌≡◌, ◌+◌, ◌<◌, ◌≤◌, ℕ, zero, suc, Bool, true, List, [], ◌∷◌, ◌++◌, length, get_or, Option, None, Some, slice_get, inl, inr, refl, sym, subst, arith, ints, All-append, All-cons, All-nil, Contains-append_left, Contains-append_right, slice_get_cases, MatchOption, ends_of}
-use Rattle.mat_facts.proofs.Common.{weight_at, Weight, at_most_same, pairs, IsMatroid, is_graphic, number_of_components, Tree, is_independent, column_at, row_at, is_once, Instance, pair, list, coloured, table, IsValid, Certificate, intersect, best, rainbow, assign, last_rung, PlainRung, PricedRung}
+use Rattle.mat_facts.proofs.Common.{◌≡◌, ◌+◌, ◌<◌, ◌≤◌, ℕ, zero, suc, Bool, true, List, [], ◌∷◌, ◌++◌, length, get_or, Option, None, Some, slice_get, inl, inr, refl, sym, subst, arith, All-append, All-cons, All-nil, Contains-append_left, Contains-append_right, slice_get_cases, MatchOption, ends_of}
+use Rattle.mat_facts.proofs.Common.{weight_at, Weight, at_most_same, IsMatroid, is_graphic, number_of_components, Tree, is_independent, column_at, row_at, is_once, Instance, pair, list, coloured, table, IsValid, Certificate, intersect, best, rainbow, assign, last_rung, PlainRung, PricedRung}
 use Rattle.mat_facts.proofs.Common.{AreRightRungs, IsRight, IsRightLadder, IsRightRainbow, AddUp, Fact, allowed, falls_apart, few_above, full, shared, Holds, colours_facts, ladder_facts, last_facts, reason_of, sizes_facts, whole_facts, AreAllowedRungs, rungs_of, ShowsNoLarger, ShowsNoRainbowTree, Suffice, list_at}
 use Rattle.std.specs.List.{All, Contains}
 use Rattle.mat_fronts.specs.Rainbow.{IsMissingColours, edges_without}
@@ -10,6 +10,7 @@ use Rattle.mat_facts.proofs.HeaviestTerms.{terms_of_heaviest}
 use Rattle.mat_facts.proofs.ListedFacts.{all_one, all_told, all_two, stands_in_told, stands_later}
 use Rattle.mat_facts.proofs.RightRungs.{each_rung_shown, ladder_allowed, ladder_holds}
 use Rattle.mat_facts.proofs.RulesOfProblems.{both_allow, one_allows, rules_are_matroids}
+use Rattle.mat_facts.proofs.TermSums.{sum_of_one}
 
 -- whatever is told, the facts hold and suffice
 abbrev pub GivesReason : Instance → Certificate → Type 0
@@ -145,7 +146,7 @@ module _ (told : ℕ → Bool) (w : List Weight) (matroid : Tree) (n : ℕ) (run
   ends = last_facts (slice_get rungs (last_rung rungs))
 
   whole : AddUp (length w) 1 w (w ∷ [])
-  whole = record { lists = refl; long = long; sums = λ e l. omega (arith, ints, pairs) }
+  whole = record { lists = refl; long = long; sums = λ e l. sum_of_one (λ i. weight_at (list_at (w ∷ []) i) e) }
     where
       long : (i : ℕ) → i < 1 → length (list_at (w ∷ []) i) ≡ length w
       long zero l = refl

@@ -1,12 +1,13 @@
 -- A right ladder of two rules gives facts that hold and suffice: each rung bounds its size by the terms of its set, and the cut all sizes.
-use Rattle.mat_facts.proofs.Common.{◌≡◌, ◌+◌, ◌<◌, ℕ, zero, suc, Bool, true, List, [], ◌∷◌, ◌++◌, length, map, None, Some, slice_get, inl, inr, refl, sym, ap, ◌∙◌, subst, arith, ints, length-map, All-append, All-cons, Contains-append_left, Contains-append_right, same_Some, all_below, minus, ◌⊕◌}
-use Rattle.mat_facts.proofs.Common.{weight, weight_at, Weight, IsSet-all_below, IsSet-minus, at_most_same, pairs, IsMatroid, rank, Instance, Certificate, PlainRung, PricedRung, IsRightLadder, AddUp, AllowsAtMost, HasFewAbove, AreAllowedRungs, IsAllowedRung, plain_rung, Fact, allowed, at_most}
+use Rattle.mat_facts.proofs.Common.{◌≡◌, ◌+◌, ◌<◌, ℕ, zero, suc, Bool, true, List, [], ◌∷◌, ◌++◌, length, map, None, Some, slice_get, inl, inr, refl, sym, ap, ◌∙◌, subst, arith, length-map, All-append, All-cons, Contains-append_left, Contains-append_right, same_Some, all_below, minus, ◌⊕◌}
+use Rattle.mat_facts.proofs.Common.{weight, weight_at, Weight, IsSet-all_below, IsSet-minus, at_most_same, IsMatroid, rank, Instance, Certificate, PlainRung, PricedRung, IsRightLadder, AddUp, AllowsAtMost, HasFewAbove, AreAllowedRungs, IsAllowedRung, plain_rung, Fact, allowed, at_most}
 use Rattle.mat_facts.proofs.Common.{few_above, shared, Holds, AllAllow, rule_count, size_of, weights_of, cut_facts, ladder_facts, rung_facts, shares_of, size_facts, sizes_facts, ShowsNoLarger, list_at}
 use Rattle.std.specs.List.{All, Contains}
 use Rattle.mat_laws.proofs.BestLadders.{split_weight}
 use Rattle.mat_facts.proofs.GivenBounds.{FallingBound, allows_rank, bound_by_two, divided_by_cut, terms_of}
 use Rattle.mat_facts.proofs.HeaviestTerms.{terms_of_heaviest}
 use Rattle.mat_facts.proofs.BestOfRungs.{ShowsFallingRungs}
+use Rattle.mat_facts.proofs.TermSums.{sum_of_two}
 use Rattle.mat_facts.proofs.ListedFacts.{all_three, all_told, all_two, stands_in_told, stands_later}
 
 -- a rung without its split comes of one that has it
@@ -25,7 +26,7 @@ pub two_shares_add : (n : ℕ) (w first second : List Weight) → length first �
 two_shares_add n w first second one other h = record {
   lists = refl;
   long = long;
-  sums = λ e l. let sum = h e l in omega (arith, ints, pairs);
+  sums = λ e l. sum_of_two (λ i. weight_at (list_at (first ∷ second ∷ []) i) e) ∙ h e l;
 }
   where
     long : (i : ℕ) → i < 2 → length (list_at (first ∷ second ∷ []) i) ≡ n

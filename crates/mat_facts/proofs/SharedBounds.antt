@@ -1,9 +1,9 @@
 -- Shares and terms bound what a set weighs that each of some rules allows. The terms are those of one size: a smaller set takes the first of
 -- them, and a larger one takes the last once more for each further element.
 use Rattle.mat_facts.proofs.Common.{◌≡◌, ◌<◌, ◌≤◌, ◌-◌, ℕ, Bool, true, false, cond, ltb, List, length, refl, sym, ap, ◌∙◌, subst, arith, lt-ltb, ltb-false, ltb-true, false_from_ne_true, IsSet, ◌≼◌, weight, weight_at, weight_sum, zero_weight, Weight, below_member, at_most_same, at_most_trans}
-use Rattle.mat_facts.proofs.Common.{weight_sum-same, is_below, length-filter, AddUp, HasFewAbove, list_at, step_at, sum_of_first}
+use Rattle.mat_facts.proofs.Common.{weight_sum-same, is_below, length-filter, AddUp, HasFewAbove, list_at, step_at}
 use Rattle.mat_facts.proofs.BoundedSums.{count_above, weighs_at_most}
-use Rattle.mat_facts.proofs.TermSums.{sum_falls, sum_rises, sums_agree, sums_exchange, sums_grow, weight_of_sums}
+use Rattle.mat_facts.proofs.TermSums.{sum_falls, sum_of_first, sum_rises, sums_agree, sums_exchange, sums_grow, weight_of_sums}
 
 -- ---- the number of a term, or of the last one
 

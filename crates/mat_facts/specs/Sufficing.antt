@@ -3,7 +3,7 @@
 use Rattle.std.specs.Prelude.{◌≡◌, ℕ, suc, ◌+◌, ◌-◌, ◌*◌, ◌<◌, ◌≤◌, ◌⊎◌, true, List, [], ◌∷◌, length, Some, slice_get, slice_index, Contains}
 use Rattle.mat_sets.specs.FallingWeights.{heavy}
 use Rattle.mat_sets.specs.Sets.{all_below, is_member, minus, IsSubset}
-use Rattle.mat_sets.specs.Weights.{◌≼◌, negated, zero_weight}
+use Rattle.mat_sets.specs.Weights.{◌≼◌, negated, weight_sum, zero_weight}
 use Rattle.mat_sets.specs.declared.weight.Weight.{Weight}
 use Rattle.mat_union.specs.RightUnions.{AreFalling, level_at}
 use Rattle.mat_union.specs.declared.best.Level.{Level}
@@ -14,7 +14,7 @@ use Rattle.mat_cert.specs.declared.answer.PlainRung.{PlainRung}
 use Rattle.mat_facts.specs.Facts.{Fact, allowed, at_most, shared, few_above, full, in_parts, between, falls_apart, without_root, entered_by, none_gains}
 use Rattle.mat_facts.specs.Answers.{rungs_of}
 use Rattle.mat_facts.specs.Problems.{rule_count, size_of, weights_of}
-use Rattle.mat_facts.specs.Terms.{count_of_first, list_at, step_at, sum_of_first}
+use Rattle.mat_facts.specs.Terms.{count_of_first, list_at, step_at}
 
 -- ---- sets that all rules allow
 
@@ -26,7 +26,7 @@ pub record BoundsSize (problem : Instance) (facts : List Fact) (k : ℕ) (most :
   pub says_shares : Contains facts (shared shares)
   pub says_terms : (i : ℕ) → i < rule_count problem → Contains facts (few_above i (list_at shares i) (list_at terms i))
   pub long : (i : ℕ) → i < rule_count problem → length (list_at terms i) ≡ k
-  pub total : sum_of_first (step_at terms (rule_count problem)) k ≼ most
+  pub total : weight_sum (step_at terms (rule_count problem)) (all_below k) ≼ most
 
 -- of 0 elements: the empty set weighs nothing, which is at most this
 abbrev pub IsNothing : ℕ → Weight → Type 0
