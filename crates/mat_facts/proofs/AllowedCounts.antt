@@ -1,8 +1,8 @@
 -- What rules allow of some sets bounds their ranks, the size of what all of them allow, and how many elements disjoint sets hold.
-use Rattle.mat_facts.proofs.Common.{◌≡◌, ◌<◌, ◌≤◌, ◌+◌, ℕ, zero, suc, Bool, true, List, [], ◌∷◌, length, refl, ap, arith, heavy, family_union, intersection, is_member, minus, IsRising, IsSet, IsSubset, Weight, intersection-subset, below_member, IsSet-those_below, IsMatroid, rank, rising, rank_is}
-use Rattle.mat_facts.proofs.Common.{IsLevelCut, test_at, AreMatroids, AreParts, ranks_sum, weighs, weight_at, AllowsAtMost, count_of_first}
+use Rattle.mat_facts.proofs.Common.{◌≡◌, ◌<◌, ◌≤◌, ◌+◌, ℕ, zero, suc, Bool, true, List, [], ◌∷◌, length, sym, ap, arith, heavy, family_union, intersection, is_member, minus, IsRising, IsSet, IsSubset, Weight, intersection-subset, below_member, IsSet-those_below, IsMatroid, rank, rising, rank_is}
+use Rattle.mat_facts.proofs.Common.{IsLevelCut, test_at, AreMatroids, AreParts, ranks_sum, weighs, weight_at, AllowsAtMost}
 use Rattle.mat_union.specs.PartListLaws.{cut_bounds}
-use Rattle.mat_facts.proofs.DividedSets.{counts_grow, divided}
+use Rattle.mat_facts.proofs.DividedSets.{count_more, count_none, count_of_first, counts_grow, divided}
 
 -- the rank is no more than what the rule allows
 pub rank_at_most : {n : ℕ} {p : List ℕ → Bool} → IsMatroid n p → (S : List ℕ) (c : ℕ) → AllowsAtMost n p S c → rank p S ≤ c
@@ -14,11 +14,19 @@ rank_at_most {n} {p} laws S c h =
 
 -- the first of so many numbers, and then the others
 pub count_front : (f : ℕ → ℕ) (m : ℕ) → count_of_first f (suc m) ≡ f 0 + count_of_first (λ i. f (suc i)) m
-count_front f zero = omega arith
-count_front f (suc m) = let before = count_front f m in omega arith
+count_front f zero =
+    let one = count_more f 0 in
+    let none = count_none f in
+    let later = count_none (λ i. f (suc i)) in
+    omega arith
+count_front f (suc m) =
+    let before = count_front f m in
+    let all = count_more f (suc m) in
+    let later = count_more (λ i. f (suc i)) m in
+    omega arith
 
 ranks_counted : (tests : List (List ℕ → Bool)) (A : List ℕ) → ranks_sum tests A ≡ count_of_first (λ i. rank (test_at tests i) A) (length tests)
-ranks_counted [] A = refl
+ranks_counted [] A = sym (count_none (λ i. rank (test_at [] i) A))
 ranks_counted (test ∷ tests) A =
     let before = ranks_counted tests A in
     let front = count_front (λ i. rank (test_at (test ∷ tests) i) A) (length tests) in

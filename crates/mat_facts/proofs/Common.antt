@@ -4,7 +4,7 @@ pub use Rattle.std.proofs.Common.{◌++◌, ◌+◌, ◌-◌, ◌<◌, ◌||◌,
 pub use Rattle.std.proofs.lemmas.Bool.{and_from, and_parts, both_ways, cases_Bool, cases_eq, cases_lt, false_from_ne_true, not-true, not_from_false, or_cases, or_left, or_right}
 pub use Rattle.std.proofs.lemmas.Int.{ints}
 pub use Rattle.std.proofs.lemmas.List.{get_or-map, length-map}
-pub use Rattle.std.proofs.lemmas.List.Sums.{length-filter}
+pub use Rattle.std.proofs.lemmas.List.Sums.{length-filter, sum_by-cons}
 pub use Rattle.std.proofs.lemmas.List.Elements.{All-append, All-cons, All-contains, All-nil, Contains-append_left, Contains-append_right}
 pub use Rattle.std.proofs.lemmas.Option.{same_Some, slice_get-map, slice_get_cases, slice_get_within}
 pub use Rattle.mat_sets.specs.FallingWeights.{heavy}
@@ -63,4 +63,4 @@ pub use Rattle.mat_facts.specs.Problems.{AllAllow, rule_at, rule_count, rules_of
 pub use Rattle.mat_facts.specs.Reasons.{are_costs, colours_facts, costs_facts, cut_facts, ladder_facts, last_facts, level_facts, level_most_facts, reason_of, rung_facts, shares_of, size_facts, sizes_facts, told_sizes, whole_facts}
 pub use Rattle.mat_facts.specs.Sufficing.{BoundsEachSize, BoundsLarger, BoundsLevel, BoundsSize, BoundsSmaller, DividesElements, IsNothing, ShowsCheapestReach, ShowsEachRung, ShowsNoArborescences, ShowsNoCheaper, ShowsNoFewerSets, ShowsNoHeavier, ShowsNoLarger, ShowsNoMoreBases, ShowsNoRainbowTree, ShowsNoTrees, ShowsUnion}
 pub use Rattle.mat_facts.specs.Sufficing.{Suffice}
-pub use Rattle.mat_facts.specs.Terms.{count_of_first, falling_terms, list_at, put_falling, step_at}
+pub use Rattle.mat_facts.specs.Terms.{falling_terms, list_at, put_falling, step_at}

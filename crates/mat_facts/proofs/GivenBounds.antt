@@ -1,8 +1,9 @@
 -- Where facts of the given forms stand in a list, they bound sizes: of one rule, and of two.
 use Rattle.mat_facts.proofs.Common.{◌≡◌, ◌<◌, ◌≤◌, ◌+◌, ℕ, zero, suc, Bool, true, List, [], ◌∷◌, length, get_or, inl, inr, sym, ◌∙◌, subst, arith, cases_Bool, and_from, lt-ltb, not_from_false, ints, all_below, intersection, is_member, minus, IsSet, ◌⊕◌, ◌≼◌, weight, weight_at, Weight}
-use Rattle.mat_facts.proofs.Common.{is_member-all_below, is_member-minus, IsRising-intersection, intersection-left, intersection-right, pairs, IsMatroid, rank, rising, rank_is, Instance, AllowsAtMost, Fact, at_most, few_above, shared, rule_count, size_of, BoundsSize, DividesElements, count_of_first}
+use Rattle.mat_facts.proofs.Common.{is_member-all_below, is_member-minus, IsRising-intersection, intersection-left, intersection-right, pairs, IsMatroid, rank, rising, rank_is, Instance, AllowsAtMost, Fact, at_most, few_above, shared, rule_count, size_of, BoundsSize, DividesElements}
 use Rattle.mat_facts.proofs.Common.{falling_terms, list_at, step_at}
 use Rattle.std.specs.List.{Contains}
+use Rattle.mat_facts.proofs.DividedSets.{count_more, count_none, count_of_first}
 use Rattle.mat_facts.proofs.FallingTerms.{length-falling_terms, sum-falling_terms, terms_fall}
 use Rattle.mat_facts.proofs.TermSums.{sum_of_first, sum_of_one, sum_of_two, sums_exchange, sums_grow}
 
@@ -121,9 +122,17 @@ divided_by_cut problem facts m n cut outer inner two size says_outer says_inner 
   most = outer ∷ inner ∷ [];
   says_most = by_rule;
   each = λ e l. at e (subst (λ s. e < s) size l);
-  few = subst (λ r. count_of_first (λ i. get_or (outer ∷ inner ∷ []) i 0) r < m) (sym two) (omega arith);
+  few = subst (λ r. count_of_first (λ i. get_or (outer ∷ inner ∷ []) i 0) r < m) (sym two) both;
 }
   where
+    both : count_of_first (λ i. get_or (outer ∷ inner ∷ []) i 0) 2 < m
+    both =
+        let most = λ (i : ℕ). get_or (outer ∷ inner ∷ []) i 0 in
+        let all = count_more most 1 in
+        let one = count_more most 0 in
+        let none = count_none most in
+        omega arith
+
     by_rule : (i : ℕ) → i < rule_count problem
         → Contains facts (at_most i (list_at (minus (all_below n) cut ∷ cut ∷ []) i) (get_or (outer ∷ inner ∷ []) i 0))
     by_rule zero l = says_outer

@@ -2,10 +2,11 @@
 use Rattle.mat_facts.proofs.Common.{◌≡◌, ◌<◌, ◌≤◌, ◌-◌, ◌+◌, ◌*◌, ℕ, zero, suc, Bool, true, false, List, [], ◌∷◌, length, map, get_or, Option, None, Some, slice_get, inl, inr, refl, sym, ap, subst, arith, both_ways, get_or-map, All-cons, All-nil, same_Some, flat_map, heavy, family_union, indicator}
 use Rattle.mat_facts.proofs.Common.{multiplicity, all_below, intersection, is_member, minus, IsSet, weight_at, Weight, no_members, IsRising-all_below, IsSet-all_below, IsSet-subset, only_member, IsSet-those_below, intersection-left, intersection-right, IsBase, IsLoop, IsMatroid, rank}
 use Rattle.mat_facts.proofs.Common.{IsBase-maximal, IsMaximal-base, maximal_in, rank-maximal, level_at, IsLevelCut, part_at, ranks_sum, test_at, weighs, AreBases, IsRightCovering, IsRightPacking, packing_is_most, Tree, is_independent, Instance, list, IsValid, Certificate, union_of, pack_any, pack}
-use Rattle.mat_facts.proofs.Common.{cover_never, cover, LevelLine, level_of, IsRight, IsRightUnionAnswer, AllowsAtMost, Fact, allowed, at_most, full, in_parts, Holds, level_facts, level_most_facts, BoundsLevel, count_of_first}
+use Rattle.mat_facts.proofs.Common.{cover_never, cover, LevelLine, level_of, IsRight, IsRightUnionAnswer, AllowsAtMost, Fact, allowed, at_most, full, in_parts, Holds, level_facts, level_most_facts, BoundsLevel}
 use Rattle.std.specs.List.{All, Contains}
 use Rattle.mat_union.specs.declared.best.Level.{Level}
 use Rattle.mat_facts.proofs.AllowedCounts.{count_front}
+use Rattle.mat_facts.proofs.DividedSets.{count_none, count_of_first}
 use Rattle.mat_facts.proofs.GivenBounds.{allows_rank}
 use Rattle.mat_facts.proofs.ListedFacts.{all_in_all, all_one, all_three, all_two, stands_in_all, stands_later}
 use Rattle.mat_facts.proofs.RightLadderReasons.{GivesReason}
@@ -17,7 +18,7 @@ abbrev ranks_of : List (List ℕ → Bool) → List ℕ → List ℕ
 ranks_of tests cut = map (λ test. rank test cut) tests
 
 ranks_counted : (tests : List (List ℕ → Bool)) (cut : List ℕ) → count_of_first (λ i. get_or (ranks_of tests cut) i 0) (length tests) ≡ ranks_sum tests cut
-ranks_counted [] cut = refl
+ranks_counted [] cut = count_none (λ i. get_or (ranks_of [] cut) i 0)
 ranks_counted (test ∷ tests) cut =
     let before = ranks_counted tests cut in
     let front = count_front (λ i. get_or (ranks_of (test ∷ tests) cut) i 0) (length tests) in

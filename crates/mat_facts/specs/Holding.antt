@@ -17,7 +17,7 @@ use Rattle.mat_facts.specs.Answers.{IsAllowed}
 use Rattle.mat_facts.specs.Problems.{rule_at, rule_count, size_of, weights_of}
 use Rattle.mat_facts.specs.Allowances.{AddUp, AllowsAtMost, HasFewAbove}
 
--- groups of so many vertices: none is empty, and each vertex is in exactly one
+-- groups of so many vertices, each by a list of its members: none is empty, and each vertex is in exactly one
 pub record AreGroups (vertices : ℕ) (groups : List (List ℕ)) : Type 0 where
   pub filled : (q : ℕ) → q < length groups → 0 < length (part_at groups q)
   pub below : (q x : ℕ) → q < length groups → is_member x (part_at groups q) ≡ true → x < vertices

@@ -1,6 +1,6 @@
 -- Which lists of facts suffice. Each form says which facts stand in the list, in any order and beside any others, and how their numbers add up;
 -- the laws in `laws` say what follows if the facts hold.
-use Rattle.std.specs.Prelude.{◌≡◌, ℕ, suc, ◌+◌, ◌-◌, ◌*◌, ◌<◌, ◌≤◌, ◌⊎◌, true, List, [], ◌∷◌, length, Some, slice_get, slice_index, Contains}
+use Rattle.std.specs.Prelude.{◌≡◌, ℕ, suc, ◌+◌, ◌-◌, ◌*◌, ◌<◌, ◌≤◌, ◌⊎◌, true, List, [], ◌∷◌, length, Some, slice_get, slice_index, sum_by, Contains}
 use Rattle.mat_sets.specs.FallingWeights.{heavy}
 use Rattle.mat_sets.specs.Sets.{all_below, is_member, minus, IsSubset}
 use Rattle.mat_sets.specs.Weights.{◌≼◌, negated, weight_sum, zero_weight}
@@ -14,7 +14,7 @@ use Rattle.mat_cert.specs.declared.answer.PlainRung.{PlainRung}
 use Rattle.mat_facts.specs.Facts.{Fact, allowed, at_most, shared, few_above, full, in_parts, between, falls_apart, without_root, entered_by, none_gains}
 use Rattle.mat_facts.specs.Answers.{rungs_of}
 use Rattle.mat_facts.specs.Problems.{rule_count, size_of, weights_of}
-use Rattle.mat_facts.specs.Terms.{count_of_first, list_at, step_at}
+use Rattle.mat_facts.specs.Terms.{list_at, step_at}
 
 -- ---- sets that all rules allow
 
@@ -53,7 +53,7 @@ pub record DividesElements (problem : Instance) (facts : List Fact) (m : ℕ) : 
   pub most : List ℕ
   pub says_most : (i : ℕ) → i < rule_count problem → Contains facts (at_most i (list_at sides i) (slice_index most i))
   pub each : (e : ℕ) → e < size_of problem → (i : ℕ) × (i < rule_count problem) × (is_member e (list_at sides i) ≡ true)
-  pub few : count_of_first (slice_index most) (rule_count problem) < m
+  pub few : sum_by (slice_index most) (all_below (rule_count problem)) < m
 
 -- to a set of fewer than m elements, which the one rule allows, no element can be added
 pub record HasFullSet (facts : List Fact) (m : ℕ) : Type 0 where
@@ -87,7 +87,7 @@ pub record BoundsLevel (problem : Instance) (facts : List Fact) (t : Weight) (cu
   pub inside : IsSubset cut (heavy (size_of problem) (weights_of problem) t)
   pub says_most : 0 < length cut → (i : ℕ) → i < rule_count problem → Contains facts (at_most i cut (slice_index most i))
   pub says_held : Contains facts (in_parts t held)
-  pub enough : length (minus (heavy (size_of problem) (weights_of problem) t) cut) + count_of_first (slice_index most) (rule_count problem) ≤ held
+  pub enough : length (minus (heavy (size_of problem) (weights_of problem) t) cut) + sum_by (slice_index most) (all_below (rule_count problem)) ≤ held
 
 -- parts of the most elements, and of these of the greatest weight: for each of the distinct weights no parts hold more elements of that weight
 -- and more
