@@ -219,7 +219,7 @@ module _ (w : List Weight) (matroid : Tree) (n : ℕ) (valid : IsValid (list w (
       let set : IsSet (length w) (loop_at ∷ []) = record { rising = record { rises = (omega arith, tt) }; below = (loop.0, tt) } in (
         all_two (Holds single (cover_never n loop_at)) allowed (at_most 0 (loop_at ∷ []) 0) right.0
             (omega arith, loop_allows_none loop_at loop set),
-        ((0, omega arith, refl), loop_at, loop.0, (1, omega arith, refl)),
+        ((0, omega arith, refl), loop_at, (1, omega arith, refl)),
       )
 
   pub covering_gives : (sets : List (List ℕ)) (cut : Option (List ℕ)) → IsRight (list w (matroid ∷ [])) (cover n sets cut)

@@ -19,7 +19,7 @@ facts_suffice (list w (matroid ∷ [])) (pack n bases cut) facts valid hold s =
     (no_more_bases w matroid (pack n bases cut) facts valid hold bases is.1 s)
 facts_suffice (list w (matroid ∷ [])) (cover_never n loop_at) facts valid hold s =
     let is = said (list w (matroid ∷ [])) (cover_never n loop_at) facts valid hold allowed s.0 in
-    λ sets c. no_cover w matroid (cover_never n loop_at) facts valid hold s.1 s.2 s.3 sets (subst (λ m. IsCover m (is_independent matroid) sets) is c)
+    λ sets c. no_cover w matroid (cover_never n loop_at) facts valid hold s.1 s.2 sets (subst (λ m. IsCover m (is_independent matroid) sets) is c)
 facts_suffice (list w (matroid ∷ [])) (cover n sets cut) facts valid hold s =
     let is = said (list w (matroid ∷ [])) (cover n sets cut) facts valid hold allowed s.0 in
     subst (λ m. AreFewestSets m (is_independent matroid) sets) (sym is.0)

@@ -99,13 +99,15 @@ module _ (w : List Weight) (matroid : Tree) (answer : Certificate) (facts : List
           let more = grown_product (length sets - 1) (rank p s.cut) s.most few in
           omega (arith, s.long, more)
 
-  pub no_cover : (e : ℕ) → e < n → Contains facts (at_most 0 (e ∷ []) 0) → (sets : List (List ℕ)) → IsCover n p sets → ⊥
-  no_cover e l at = loop_has_no_cover laws e (l, false_from_ne_true _ dependent)
+  pub no_cover : (e : ℕ) → Contains facts (at_most 0 (e ∷ []) 0) → (sets : List (List ℕ)) → IsCover n p sets → ⊥
+  no_cover e at = loop_has_no_cover laws e (few.set.below.0, false_from_ne_true _ dependent)
     where
+      few : AllowsAtMost n p (e ∷ []) 0
+      few = (tell (at_most 0 (e ∷ []) 0) at).1
+
       dependent : p (e ∷ []) ≡ true → ⊥
       dependent ok =
           let one = (laws.sets (e ∷ []) ok).rising in
-          let h = (tell (at_most 0 (e ∷ []) 0) at).1 in
-          let most = h.most (e ∷ []) ok in
+          let most = few.most (e ∷ []) ok in
           let same = ap length (intersection-subset (e ∷ []) (e ∷ []) one (IsSubset-refl (e ∷ []))) in
           absurd (omega arith)

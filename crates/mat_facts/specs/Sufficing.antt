@@ -156,8 +156,7 @@ Suffice (list w matroids) (union_of n printed parts levels) facts = ShowsUnion (
 Suffice (list w (matroid ∷ [])) (best n rungs) facts = ShowsEachRung (list w (matroid ∷ [])) rungs facts
 Suffice (list w (matroid ∷ [])) (pack_any n) facts = Contains facts (at_most 0 (all_below (length w)) 0)
 Suffice (list w (matroid ∷ [])) (pack n bases cut) facts = ShowsNoMoreBases (list w (matroid ∷ [])) facts (length bases)
-Suffice (list w (matroid ∷ [])) (cover_never n loop_at) facts =
-    Contains facts allowed × (e : ℕ) × (e < length w) × Contains facts (at_most 0 (e ∷ []) 0)
+Suffice (list w (matroid ∷ [])) (cover_never n loop_at) facts = Contains facts allowed × (e : ℕ) × Contains facts (at_most 0 (e ∷ []) 0)
 Suffice (list w (matroid ∷ [])) (cover n sets cut) facts =
     Contains facts allowed × ((length sets ≡ 0) ⊎ ShowsNoFewerSets (list w (matroid ∷ [])) facts (length sets))
 Suffice (graph vertices edges) (trees n sets) facts = Contains facts allowed
