@@ -143,24 +143,30 @@ def check_alone(rt, crate, texts, names):
     return rt.checked(crate, texts, ['--jobs', '1', *only], None)
 
 
+def check_functions(rt, crate, texts, functions):
+    """The same by paths, where several functions have a name; and the names that were asked for."""
+    names, tried = [name for _, name in functions], set()
+    ran = check_alone(rt, crate, texts, names)
+    for several in iter(lambda: SEVERAL.search(ran.stdout), None):
+        name = several[1]
+        modules = tuple(f'{crate.name}::{module}' for module, it in functions if it == name)
+        paths = [it for it in re.findall(r'`([\w:]+)`', several[2]) if it.startswith(modules)]
+        if name in tried or not paths:
+            break
+        tried.add(name)
+        names = [it for it in names if it != name] + paths
+        ran = check_alone(rt, crate, texts, names)
+    return names, ran
+
+
 def try_functions(rt, crate, edit):
     """What a check of the functions that an edit changes comes to, None if it says nothing, and
     what is said of it."""
-    tried = set()
     texts, why = rt.read_edit(edit, crate.folder)
     functions = None if why else functions_of(edit, crate.folder)
     if functions is None:
         return None, why or 'no function is changed'
-    names = [name for _, name in functions]
-    ran = check_alone(rt, crate, texts, names)
-    for several in iter(lambda: SEVERAL.search(ran.stdout), None):
-        modules = [f'{crate.name}::{module}' for module, name in functions if name == several[1]]
-        names = [it for it in names if it != several[1]] + \
-                [it for it in re.findall(r'`([\w:]+)`', several[2]) if it.startswith(tuple(modules))]
-        if several[1] in tried or not names:
-            break
-        tried.add(several[1])
-        ran = check_alone(rt, crate, texts, names)
+    names, ran = check_functions(rt, crate, texts, functions)
     lines = ran.stdout.rstrip('\n').split('\n')
     has_ended = any(re.match(r'only=\d+ proved=', line) for line in lines)
     if ran.returncode != 1 or not has_ended or any(rt.unread(line, texts) for line in lines):
