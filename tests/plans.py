@@ -264,8 +264,8 @@ def faults_of_changes(numbers, problem, every):
     for it in told:
         if it.changes != len(it.new) + len(it.dropped):
             yield f"{it.changes} changes, and {it.new} and {it.dropped}"
-        more = few_changes.Cost(it.least.gain + 1, it.least.tie)
-        for cost in {it.least, more if it.most is None else it.most}:
+        more = few_changes.Cost(it.least + 1, it.least_cost.tie)
+        for cost in {it.least_cost, more if it.most_cost is None else it.most_cost}:
             worth = max(charged(problem.weight(plan), changes[plan], cost) for plan in every)
             if charged(pair_of(it.plan.weight), it.changes, cost) != worth:
                 yield f"{it.plan} is not best where a change costs {cost}"

@@ -58,15 +58,17 @@ class Cost(NamedTuple):
 
 
 class Choice(NamedTuple):
-    """A plan that is best where a change costs from `least` to `most`, None for any cost; with its
-    changes, what is new, and what is dropped."""
+    """A plan that is best where a change costs from `least_cost` to `most_cost`, None for any cost,
+    with the first numbers of both; its changes, what is new, and what is dropped."""
 
     changes: int
     plan: Plan
-    least: Cost
-    most: Cost | None
+    least: Fraction
+    most: Fraction | None
     new: tuple[str, ...]
     dropped: tuple[str, ...]
+    least_cost: Cost
+    most_cost: Cost | None
 
 
 class _Point(NamedTuple):
@@ -143,10 +145,11 @@ def _choices(wanted: Wanted, last: frozenset[int], telling: Telling | None) -> l
         plan = base.plan(point.rung.members)
         held = base.wishes(point.rung.members)
         new = [name for it, name in zip(sorted(point.rung.members), plan.members) if it not in last]
-        found.append(Choice(len(wishes) + point.changes, plan,
-                            costs[place - 1] if place else Cost(Fraction(0), Fraction(0)),
-                            costs[place] if place < len(costs) else None, tuple(new),
-                            tuple(sorted(wishes - held))))
+        least = costs[place - 1] if place else Cost(Fraction(0), Fraction(0))
+        most = costs[place] if place < len(costs) else None
+        found.append(Choice(len(wishes) + point.changes, plan, least.gain,
+                            None if most is None else most.gain, tuple(new),
+                            tuple(sorted(wishes - held)), least, most))
     return found
 
 
@@ -181,8 +184,8 @@ def _table(choices: Sequence[Choice]) -> Table:
     """A row for each plan."""
     rows: list[list[Any]] = []
     for it in choices:
-        most = None if it.most is None else str(it.most)
-        rows.append([it.changes, str(it.plan.weight), it.plan.size, str(it.least), most,
+        most = None if it.most_cost is None else str(it.most_cost)
+        rows.append([it.changes, str(it.plan.weight), it.plan.size, str(it.least_cost), most,
                      " ".join(it.new), " ".join(it.dropped)])
     return Table(("changes", "weight", "size", "best if a change costs", "to", "new", "dropped"),
                  rows)
