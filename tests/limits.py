@@ -19,8 +19,8 @@ import sys
 import tempfile
 
 TOP = os.path.dirname(os.path.dirname(os.path.abspath(__file__)))
-#: The search ends by its solves, so that a slow machine finds the same.
-SECONDS = 1e6
+#: How long one search may take, if it does not end by its solves.
+SECONDS = 10
 
 
 class Rules:
