@@ -1,0 +1,202 @@
+// What a roster is asked for, read from a table of wishes and from limits, by the rules of the Python package (matbench/roster/reading.py).
+import { holdToColumns, inOrder, numbersOf, saysYes, TableFault, wholeOf } from "./tables.mjs";
+
+/** The columns of both tables: those that are needed, and those that may be there. */
+export const WISH_COLUMNS = [["person", "shift", "gain"], ["day", "week", "kind", "must", "never", "last"]];
+export const LIMIT_COLUMNS = [["name", "most"], ["least", "kind", "week", "day"]];
+/** A limit above this is none. */
+const MOST_OF_LIMIT = 10_000;
+
+/** One text for several words, which no other words have. */
+const keyOf = (...words) => JSON.stringify(words);
+
+/**
+ * The shifts of the rows by week, day and name, each with its title: the name alone, or with the day, or with both in front, so that no two are called
+ * the same.
+ */
+function shiftsOf(rows) {
+  const found = new Map();
+  for (const row of rows) {
+    const [week, day, name] = [row.of("week"), row.of("day"), row.of("shift")];
+    found.set(keyOf(week, day, name), { week, day, name });
+  }
+  const parts = [...found.values()].map(({ week, day, name }) => [week, day, name]);
+  const titlesFrom = (first) => parts.map((it) => it.slice(first).filter(Boolean).join(" "));
+  const titles = [2, 1, 0].map(titlesFrom).find((it) => new Set(it).size === parts.length) ?? parts.map((it) => it.join(" / "));
+  [...found.values()].forEach((shift, place) => (shift.title = titles[place]));
+  return found;
+}
+
+/** Tells where a wish lacks something, or stands twice. */
+function tellFaultyWishes({ heads, rows }, tell) {
+  const seen = new Map();
+  for (const row of rows) {
+    for (const column of ["day", "week"].filter((it) => heads.includes(it))) {
+      if (!row.of(column)) tell(row.fault(`the wish has no ${column}`, column));
+    }
+    for (const column of ["person", "shift"]) {
+      if (!row.of(column)) tell(row.fault(`the wish has no ${column}`, column));
+    }
+    const key = keyOf(...["person", "week", "day", "shift"].map((it) => row.of(it)));
+    if (seen.has(key)) tell(row.fault(`this wish of ${row.of("person")} stands twice, first in line ${seen.get(key).line}`, "shift"));
+    else seen.set(key, row);
+  }
+}
+
+/** What a function makes of a row, or null where it has a fault, which is told. */
+function orTell(make, tell) {
+  try {
+    return make();
+  } catch (error) {
+    if (!(error instanceof TableFault)) throw error;
+    tell(error);
+    return null;
+  }
+}
+
+/**
+ * The wishes of a table, with all that is wrong with it, as TableFaults. `hasDays` and `hasWeeks` say whether it has these columns, and `hasLast`
+ * whether it says what was granted last time.
+ */
+export function readWishes(table) {
+  const faults = [];
+  const tell = (fault) => faults.push(fault);
+  holdToColumns(table, ...WISH_COLUMNS);
+  tellFaultyWishes(table, tell);
+  const [shifts, gains] = [shiftsOf(table.rows), numbersOf(table.rows, "gain", tell)];
+  const hasLast = table.heads.includes("last");
+  const wishes = table.rows.map((row, place) => {
+    const shift = shifts.get(keyOf(row.of("week"), row.of("day"), row.of("shift")));
+    const [must, never, last] = ["must", "never", "last"].map((it) => orTell(() => saysYes(row, it), tell));
+    if (must && never) tell(row.fault("the wish must be granted, and must not", "never"));
+    return { person: row.of("person"), shift, gain: gains[place], kind: row.of("kind"), must, never, last: hasLast ? last : null };
+  });
+  return { wishes, faults, hasDays: table.heads.includes("day"), hasWeeks: table.heads.includes("week"), hasLast };
+}
+
+/** The people of some wishes, in the order in which they come. */
+export function peopleOf(wishes) {
+  return [...new Set(wishes.map((it) => it.person))];
+}
+
+/** The shifts of some wishes, in the order in which they come. */
+export function shiftsOfWishes(wishes) {
+  return [...new Set(wishes.map((it) => it.shift))];
+}
+
+/** The rows of a table of limits by their names and then by their kinds. Throws TableFault where one has no name, or stands twice. */
+export function limitsByName(table) {
+  holdToColumns(table, ...LIMIT_COLUMNS);
+  const found = new Map();
+  for (const row of table.rows) {
+    const [name, kind] = [row.of("name"), row.of("kind")];
+    if (!name) throw row.fault("the limit has no name", "name");
+    if (!found.has(name)) found.set(name, new Map());
+    if (found.get(name).has(kind)) throw row.fault(`${name} stands twice, first in line ${found.get(name).get(kind).line}`, "name");
+    found.get(name).set(kind, row);
+  }
+  return found;
+}
+
+function mostOf(row) {
+  const most = wholeOf(row, "most", MOST_OF_LIMIT);
+  if (most === null) throw row.fault(`there is no number for ${row.of("name")}`, "most");
+  return most;
+}
+
+/** How many are needed in all in a shift with this limit. */
+export function demandedOf({ least, kinds }) {
+  return [...kinds.values()].reduce((sum, it) => sum + it.least, least);
+}
+
+/** The limit of a kind within a shift. */
+function limitOfKind(row) {
+  const [most, least] = [wholeOf(row, "most", MOST_OF_LIMIT), wholeOf(row, "least", MOST_OF_LIMIT) ?? 0];
+  if (most !== null && least > most) throw row.fault(`at least ${least} are more than at most ${most}`, "least");
+  return { most, least };
+}
+
+/** The limit of a shift. Throws TableFault where it cannot be kept, or not be said. */
+function limitOfShift(rows) {
+  const whole = rows.get("");
+  const [most, least] = [mostOf(whole), wholeOf(whole, "least", MOST_OF_LIMIT) ?? 0];
+  const kinds = new Map();
+  for (const [kind, row] of rows) {
+    for (const column of ["week", "day"]) {
+      if (wholeOf(row, column, MOST_OF_LIMIT) !== null) {
+        throw row.fault(`${column} is for people alone, and ${row.of("name")} is a shift`, column);
+      }
+    }
+    if (kind) kinds.set(kind, limitOfKind(row));
+  }
+  const demanded = demandedOf({ least, kinds });
+  if (demanded > most) throw whole.fault(`at least ${demanded} are more than at most ${most}`, "least");
+  if (least && kinds.size > 0) {
+    const name = whole.of("name");
+    throw whole.fault(
+      `${name} has a least number for all, and a limit for ${[...kinds.keys()].join(", ")}: both at once cannot be said. Give least numbers to kinds alone`,
+      "least",
+    );
+  }
+  return { most, least, kinds };
+}
+
+/** The limit of a person, which is one shift a day where days are known and no number says otherwise. */
+function limitOfPerson(rows, hasDays) {
+  for (const row of rows.values()) {
+    if (wholeOf(row, "least", MOST_OF_LIMIT)) throw row.fault(`a least number is for shifts alone, and ${row.of("name")} is a person`, "least");
+  }
+  const whole = rows.get("");
+  const day = wholeOf(whole, "day", MOST_OF_LIMIT);
+  const kinds = new Map([...rows].filter(([kind]) => kind).map(([kind, row]) => [kind, mostOf(row)]));
+  return { most: mostOf(whole), week: wholeOf(whole, "week", MOST_OF_LIMIT), day: day === null && hasDays ? 1 : day, kinds };
+}
+
+/** Tells where a name is that of a person and of a shift, and a limit does not say which. */
+function tellDoubleNames(limits, people, shifts, tell) {
+  const names = new Set(shifts.flatMap((it) => [it.title, it.name]));
+  for (const name of people.filter((it) => names.has(it) && limits.has(it)).sort(inOrder)) {
+    tell(new TableFault(`'${name}' is a person and a shift: call one of them otherwise`));
+  }
+}
+
+/** The limits that have to be there, as they are looked up. */
+class LookedUp {
+  constructor(limits) {
+    Object.assign(this, { limits, used: new Set() });
+  }
+
+  /** The rows of the first of these names that has some, by kinds. Throws TableFault where none has a row that limits all kinds. */
+  of(what, ...names) {
+    const name = names.find((it) => this.limits.has(it)) ?? names[0];
+    const rows = this.limits.get(name);
+    if (!rows?.has("")) throw new TableFault(`No line says how many at most for ${what} '${name}'`);
+    this.used.add(name);
+    return rows;
+  }
+
+  /** The limits of shifts that need somebody and that nobody wishes, told where they are faulty. */
+  unwished(tell) {
+    const needed = [...this.limits].filter(([name, rows]) => {
+      const isNeeded = () => [...rows.values()].some((it) => wholeOf(it, "least", MOST_OF_LIMIT));
+      return !this.used.has(name) && rows.has("") && orTell(isNeeded, tell);
+    });
+    return needed.map(([name, rows]) => [{ week: "", day: "", name, title: name }, orTell(() => limitOfShift(rows), tell)]);
+  }
+}
+
+/**
+ * What is asked for by the wishes that `readWishes` read and by limits by names: wishes, and the limits of shifts and of people, with all that is
+ * wrong with the limits, as TableFaults.
+ */
+export function requestOf({ wishes, hasDays, hasLast }, limits) {
+  const faults = [];
+  const tell = (fault) => faults.push(fault);
+  const [people, shifts, found] = [peopleOf(wishes), shiftsOfWishes(wishes), new LookedUp(limits)];
+  tellDoubleNames(limits, people, shifts, tell);
+  const ofPeople = new Map(people.map((it) => [it, orTell(() => limitOfPerson(found.of("the person", it), hasDays), tell)]));
+  const ofShifts = new Map(shifts.map((it) => [it, orTell(() => limitOfShift(found.of("the shift", it.title, it.name)), tell)]));
+  for (const [shift, limit] of found.unwished(tell)) ofShifts.set(shift, limit);
+  const hasDemands = [...ofShifts.values()].some((it) => it && demandedOf(it) > 0) || wishes.some((it) => it.must);
+  return { request: { wishes, shifts: ofShifts, people: ofPeople, hasDemands, hasLast }, faults };
+}

@@ -1,0 +1,169 @@
+// A request for a roster as a description, a `pair` of the limits of shifts and of people, by the rules of the Python package
+// (matbench/roster/writing.py): the same tables give the same bytes.
+import { namesOfWishes } from "./roster_names.mjs";
+import { demandedOf } from "./roster_request.mjs";
+import { inOrder, scaleOf, spelled, TableFault, UNIT } from "./tables.mjs";
+
+/** The most elements of a description. */
+const MOST_ELEMENTS = 500;
+const MOST_WEIGHT = 10n ** 12n;
+/** What stands behind the name of the second element of a wish. */
+const MORE = ".more";
+
+/** Whether a wish counts for a least number, and whether it may be granted beyond that. */
+function demandsOf(wish, request) {
+  const limit = request.shifts.get(wish.shift);
+  const counts = limit.least > 0 || (limit.kinds.get(wish.kind)?.least ?? 0) > 0;
+  return [counts, !counts || limit.most > demandedOf(limit)];
+}
+
+/** The elements { wish, name, counts }: each wish that may be granted, and once more where it may count for a least number or not. */
+function elementsOf(request) {
+  const places = [...request.wishes.keys()].filter((it) => !request.wishes[it].never);
+  const needs = [...request.shifts.values()].some((it) => demandedOf(it) > 0);
+  const pairs = places.map((it) => [request.wishes[it].person, request.wishes[it].shift.title]);
+  const names = places.length > 0 ? namesOfWishes(pairs, needs ? MORE.length : 0) : [];
+  return places.flatMap((wish, place) => {
+    const [counts, isBeyond] = demandsOf(request.wishes[wish], request);
+    const own = { wish, name: names[place], counts };
+    return counts && isBeyond ? [own, { wish, name: names[place] + MORE, counts: false }] : [own];
+  });
+}
+
+/** Numbers by a key of each, in the order in which the keys come. */
+function groupedBy(numbers, key) {
+  const found = new Map();
+  for (const it of numbers) {
+    if (!found.has(key(it))) found.set(key(it), []);
+    found.get(key(it)).push(it);
+  }
+  return found;
+}
+
+/** What limits a shift: families { name, most, members } for least numbers, those beyond, and within these the kinds. */
+function familiesOfShift(shift, members, { request, elements }) {
+  const limit = request.shifts.get(shift);
+  const isOfKind = (it, kind) => request.wishes[elements[it].wish].kind === kind;
+  const [first, beyond] = [true, false].map((counts) => members.filter((it) => elements[it].counts === counts));
+  const found = [];
+  if (limit.least) found.push({ name: shift.title, most: limit.least, members: first });
+  for (const [kind, { least }] of limit.kinds) {
+    if (least) found.push({ name: `${shift.title}, ${kind}`, most: least, members: first.filter((it) => isOfKind(it, kind)) });
+  }
+  if (beyond.length > 0) found.push({ name: shift.title, most: limit.most - demandedOf(limit), members: beyond });
+  for (const [kind, { most, least }] of limit.kinds) {
+    const ofKind = beyond.filter((it) => isOfKind(it, kind));
+    if (most !== null && ofKind.length > 0) found.push({ name: `${shift.title}, ${kind}`, most: most - least, members: ofKind });
+  }
+  return found;
+}
+
+/** What limits a person, the smallest sets first: the two elements of a wish, a day, a week, all, and the kinds. */
+function familiesOfPerson(person, members, { request, elements }) {
+  const limit = request.people.get(person);
+  const wishOf = (it) => request.wishes[elements[it].wish];
+  const parts = [
+    [1, (it) => elements[it].wish, () => person],
+    [limit.day, (it) => JSON.stringify([wishOf(it).shift.week, wishOf(it).shift.day]), (it) => `${person}, ${wishOf(it).shift.day}`],
+    [limit.week, (it) => wishOf(it).shift.week, (it) => `${person}, week ${wishOf(it).shift.week}`],
+  ];
+  const found = [];
+  for (const [most, key, name] of parts) {
+    for (const group of groupedBy(members, key).values()) {
+      if (most !== null && most < Math.min(limit.most, group.length)) found.push({ name: name(group[0]), most, members: group });
+    }
+  }
+  found.push({ name: person, most: limit.most, members });
+  for (const [kind, most] of limit.kinds) {
+    const ofKind = members.filter((it) => wishOf(it).kind === kind);
+    if (ofKind.length > most) found.push({ name: `${person}, ${kind}`, most, members: ofKind });
+  }
+  return found;
+}
+
+function isNested(one, other) {
+  const [small, large] = one.length < other.length ? [one, new Set(other)] : [other, new Set(one)];
+  const shared = small.filter((it) => large.has(it)).length;
+  return shared === 0 || shared === small.length;
+}
+
+/** Those of these families that nest, of equal sets the one with the least cap; and the rest, which cross them. */
+function laminarOf(families) {
+  const [kept, crossing] = [new Map(), []];
+  for (const it of families) {
+    const key = it.members.join();
+    if (kept.has(key)) kept.set(key, it.most < kept.get(key).most ? it : kept.get(key));
+    else if ([...kept.values()].every((other) => isNested(it.members, other.members))) kept.set(key, it);
+    else crossing.push(it);
+  }
+  return [[...kept.values()], crossing];
+}
+
+/** The lines of a matroid of these families. */
+function matroidOf(families, elements) {
+  const all = families.flatMap((it) => it.members);
+  const [kind, word] = new Set(all).size < all.length ? ["laminar", "set"] : ["partition", "class"];
+  const lines = families.map(({ most, members }) => [word, Math.min(most, MOST_ELEMENTS), ...members.map((it) => elements[it].name)].join(" "));
+  return [`${kind} ${families.length}`, ...lines];
+}
+
+/** The families for the shifts and for the people, and those of people that cross. */
+function sidesOf(given) {
+  const { request, elements } = given;
+  const places = [...elements.keys()];
+  const wishOf = (it) => request.wishes[elements[it].wish];
+  const ofShifts = [...groupedBy(places, (it) => wishOf(it).shift)].sort(([a], [b]) => inOrder(a.title, b.title));
+  const ofPeople = [...groupedBy(places, (it) => wishOf(it).person)].sort(([a], [b]) => inOrder(a, b));
+  const shifts = ofShifts.flatMap(([shift, members]) => familiesOfShift(shift, members, given));
+  const sides = ofPeople.map(([person, members]) => laminarOf(familiesOfPerson(person, members, given)));
+  return [shifts, sides.flatMap(([fitting]) => fitting), sides.flatMap(([, crossing]) => crossing)];
+}
+
+/** The two numbers of the weight of an element. */
+function numbersOfWeight({ wish, counts }, request, scale, keeping) {
+  const { gain, last, must } = request.wishes[wish];
+  const [scaled, kept] = [((gain * scale) / UNIT) * keeping, request.hasLast ? (last ? 1n : -1n) : 0n];
+  return request.hasDemands ? [BigInt(Number(counts) + Number(must)), scaled + kept] : [scaled, kept];
+}
+
+/** The weights of the elements. Throws TableFault where they are too large. */
+function weightsOf(request, elements, scale) {
+  const keeping = request.hasDemands && request.hasLast ? BigInt(2 * request.wishes.length + 1) : 1n;
+  return elements.map((it) => {
+    const [first, second] = numbersOfWeight(it, request, scale, keeping);
+    if ([first, second].some((number) => number > MOST_WEIGHT || number < -MOST_WEIGHT)) {
+      const { gain, person, shift } = request.wishes[it.wish];
+      throw new TableFault(
+        `The gain ${spelled(gain)} of ${person} for ${shift.title} is too large, with as many decimals as there are: measure all gains in a larger unit.`,
+      );
+    }
+    return second ? `${first}:${second}` : String(first);
+  });
+}
+
+/** Throws TableFault where there are too many elements for one description. */
+function holdToElements(elements) {
+  if (elements.length <= MOST_ELEMENTS) return;
+  const wishes = new Set(elements.map((it) => it.wish)).size;
+  const twice = elements.length > wishes ? ` (a wish of a shift with a least number is two elements: ${elements.length} in all)` : "";
+  throw new TableFault(
+    `There are ${wishes} wishes${twice}, and a description has at most ${MOST_ELEMENTS} elements: leave out those of the least gain, or make a roster ` +
+      "for each week. The Python package solves weeks together.",
+  );
+}
+
+/** The description of a request: its text and its elements. Throws TableFault where it is too large, or limits cross the others. */
+export function writeRequest(request) {
+  const elements = elementsOf(request);
+  holdToElements(elements);
+  const weights = weightsOf(request, elements, scaleOf(request.wishes.map((it) => it.gain)));
+  const [shifts, people, crossing] = sidesOf({ request, elements });
+  if (crossing.length > 0) {
+    const names = crossing.slice(0, 3).map((it) => it.name);
+    throw new TableFault(
+      `${crossing.length} limits cross the others (${names.join("; ")}), as nights cross days: the page cannot keep them. The Python package can.`,
+    );
+  }
+  const lines = ["matroids 2", `pair ${elements.length}`, ["elements", ...elements.map((it) => it.name)].join(" "), ["weights", ...weights].join(" ")];
+  return { elements, text: [...lines, ...matroidOf(shifts, elements), ...matroidOf(people, elements), "end", ""].join("\n") };
+}
