@@ -56,6 +56,7 @@ class Page(unittest.TestCase):
         self.browser.resize(1100, 900)
         self.open(self.address)
         self.begin_anew()
+        self.of("#text-tab", "it.click()")
         self.solve_while_typing(False)
 
     def tearDown(self):

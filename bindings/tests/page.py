@@ -13,6 +13,7 @@ import time
 import unittest
 
 from opened_page import HERE, PEOPLE, TOP, Page, fragment_of, long_problem
+from page_roster import Roster  # noqa: F401 (its tests run here too)
 from page_typing import Typing  # noqa: F401 (its tests run here too)
 
 import matbench
@@ -653,6 +654,7 @@ class OneFile(Page):
         self.browser.resize(1100, 900)
         self.open(pages.ONE_FILE)
         self.begin_anew()
+        self.of("#text-tab", "it.click()")
         self.solve_while_typing(False)
 
     def test_it_is_small(self):

@@ -15,12 +15,13 @@ import sys
 import zlib
 
 HERE = os.path.dirname(os.path.abspath(__file__))
-PAGE = ("index.html", "style.css", "parts.mjs", "matbench.mjs", "matbench.d.mts", "worker.mjs",
-        "run.mjs", "textbox.mjs", "link.mjs",
-        "kept.mjs", "answer.mjs", "page.mjs")
 #: The parts of the one file's script, each before those that take from it.
 SCRIPT = ("matbench.mjs", "run.mjs", "textbox.mjs", "link.mjs", "kept.mjs", "answer.mjs",
+          "tables.mjs", "grid.mjs", "tabs.mjs", "roster_names.mjs", "roster_request.mjs",
+          "roster_writing.mjs", "roster_plan.mjs", "roster_limits.mjs", "roster_sheet.mjs",
           "page.mjs")
+#: The files of the page.
+PAGE = ("index.html", "style.css", "parts.mjs", "matbench.d.mts", "worker.mjs", *SCRIPT)
 #: parts.mjs of the one file, and a function that takes what `packed` made.
 PARTS = """
 const textOf = (id) => document.getElementById(id).textContent;
@@ -182,13 +183,18 @@ def version(help_source):
     return re.search(r'const VERSION: &str = "(matbench [\w.]+)\\n";', help_source)[1]
 
 
+def sheet(top, wishes, limits):
+    """The example of a sheet: two tables of examples/."""
+    return {"wishes": read(top, "examples", wishes), "limits": read(top, "examples", limits)}
+
+
 def data(top):
     """What data.mjs has, by its names there."""
     formats = read(top, "docs", "FORMATS.md")
     help_source = read(top, "crates", "mat_main", "src", "help.rt")
     known = commands(help_source, formats)
     return {"VERSION": version(help_source), "COMMANDS": known, "EXAMPLES": examples(top, known),
-            "LIMITS": limits(formats),
+            "LIMITS": limits(formats), "SHEETS": {"roster": sheet(top, "week.csv", "week_limits.csv")},
             "FAULTS": faults(formats), "REASONS": reasons(formats)}
 
 

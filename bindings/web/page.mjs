@@ -1,9 +1,11 @@
 // The page: what its elements do.
 import { AnswerParts } from "./answer.mjs";
-import { COMMANDS, EXAMPLES, FAULTS, LIMITS, REASONS, VERSION } from "./data.mjs";
+import { COMMANDS, EXAMPLES, FAULTS, LIMITS, REASONS, SHEETS, VERSION } from "./data.mjs";
 import { keep, kept } from "./kept.mjs";
 import { fragmentOf, MOST_DESCRIPTION, problemOf } from "./link.mjs";
+import { RosterSheet } from "./roster_sheet.mjs";
 import { moduleOfProgram, Run } from "./run.mjs";
+import { Tabs } from "./tabs.mjs";
 import { TextBox } from "./textbox.mjs";
 
 const MOST_CERTIFICATE = 67_108_864;
@@ -31,6 +33,8 @@ const SHOWN = [
   ["--tell", "Telling it", (text) => parts.tell(text)],
   ["--picture", "Drawing it", (svg) => parts.draw(svg)],
 ];
+const tabs = new Tabs({ roster: at("roster-tab"), text: at("text-tab") }, { roster: at("roster"), text: at("text") });
+const sheet = new RosterSheet(at, { save, showText, example: SHEETS.roster });
 let running = null;
 /** The button that began the last run. */
 let begunBy = at("solve");
@@ -320,20 +324,47 @@ function problemOfPage() {
   return { command: at("command").value, count: at("count").value, text: description.text };
 }
 
+/** Shows a description among the texts, where it can be changed. */
+function showText(text) {
+  tabs.show("text");
+  setGivenProblem({ command: "intersect", text });
+  description.area.focus();
+}
+
 async function copyLink() {
-  const fragment = await fragmentOf(problemOfPage());
-  if (fragment === null) {
-    say("The description is too long for a link.");
-    return;
-  }
+  say(await copied(problemOfPage(), "description"));
+}
+
+/** What is typed into the sheet, as a link holds it. */
+function problemOfSheet() {
+  return { command: "roster", count: "", text: JSON.stringify(sheet.state) };
+}
+
+/** Copies a link that holds a problem, and answers what is said of it. */
+async function copied(problem, what) {
+  const fragment = await fragmentOf(problem);
+  if (fragment === null) return `The ${what} is too long for a link.`;
   // Not by `location.hash`: the page would follow its own link, and put this text in the place of what is typed meanwhile.
   history.replaceState(null, "", fragment);
   const isCopied = await navigator.clipboard?.writeText(location.href).then(() => true, () => false);
-  say(isCopied ? "The link is copied. It holds the description." : "The address of this page now holds the description.");
+  return isCopied ? `The link is copied. It holds the ${what}.` : `The address of this page now holds the ${what}.`;
+}
+
+/** Puts what a link holds into the sheet, and answers whether it holds such a thing. */
+function takeSheet(text) {
+  try {
+    sheet.state = JSON.parse(text);
+    tabs.show("roster");
+    return true;
+  } catch {
+    return false;
+  }
 }
 
 async function followLink() {
   const problem = await problemOf(location.hash);
+  if (problem?.command === "roster") return takeSheet(problem.text) && null;
+  if (problem) tabs.show("text");
   const shown = problemOfPage();
   if (problem && Object.keys(shown).some((it) => shown[it] !== problem[it])) setGivenProblem(problem);
   return problem;
@@ -341,8 +372,8 @@ async function followLink() {
 
 /** Keeps what stands in the page, or at least the problem, with the fragment under which it stands there. */
 function keepTexts() {
-  const problem = { ...problemOfPage(), fragment: location.hash, live: at("live").checked };
-  keep({ ...problem, answer: answer.text, answered }, problem);
+  const problem = { ...problemOfPage(), fragment: location.hash, live: at("live").checked, tab: tabs.shown, roster: sheet.state };
+  keep({ ...problem, answer: answer.text, answered }, problem, { ...problem, roster: null });
 }
 
 /** Puts back what was kept under this fragment, and answers whether there was anything: it is later than the problem that the fragment holds. */
@@ -350,6 +381,8 @@ function takeKept() {
   const found = kept();
   at("live").checked = found?.live ?? true;
   if (found?.fragment !== location.hash || !found.text) return false;
+  tabs.show(found.tab);
+  if (found.roster) sheet.state = found.roster;
   putBack(description, found.text, !EXAMPLES.some((it) => it.text === found.text));
   setCommand(found);
   if (found.answer) putBack(answer, found.answer, !found.answered);
@@ -379,6 +412,7 @@ function onKey(event) {
 function stop() {
   clearTimeout(pause);
   running?.stop();
+  sheet.stop();
 }
 
 // --- The beginning ---
@@ -391,6 +425,7 @@ function listen() {
   at("check").addEventListener("click", () => begin("check", check));
   at("stop").addEventListener("click", stop);
   at("link").addEventListener("click", copyLink);
+  at("roster-link").addEventListener("click", async () => (at("plan-state").textContent = await copied(problemOfSheet(), "wishes and limits")));
   at("save-description").addEventListener("click", () => save(description.text, "description.txt"));
   at("save-answer").addEventListener("click", () => save(answer.text, `${answered ?? "answer"}.answer`));
   at("save-picture").addEventListener("click", () => save(parts.svg, `${answered ?? "answer"}.svg`, "image/svg+xml"));
@@ -423,7 +458,7 @@ async function start() {
   }
   moduleOfProgram().catch((error) => {
     at("unable").textContent = error.message;
-    at("solve").disabled = at("check").disabled = true;
+    at("solve").disabled = at("check").disabled = at("plan").disabled = true;
   });
 }
 

@@ -69,7 +69,8 @@ export function readWishes(table) {
     const shift = shifts.get(keyOf(row.of("week"), row.of("day"), row.of("shift")));
     const [must, never, last] = ["must", "never", "last"].map((it) => orTell(() => saysYes(row, it), tell));
     if (must && never) tell(row.fault("the wish must be granted, and must not", "never"));
-    return { person: row.of("person"), shift, gain: gains[place], kind: row.of("kind"), must, never, last: hasLast ? last : null };
+    const [person, kind, gain] = [row.of("person"), row.of("kind"), gains[place]];
+    return { person, shift, gain, kind, must, never, last: hasLast ? last : null, line: row.line };
   });
   return { wishes, faults, hasDays: table.heads.includes("day"), hasWeeks: table.heads.includes("week"), hasLast };
 }
