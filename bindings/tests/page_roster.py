@@ -26,7 +26,8 @@ class Roster(Page):
     def plan(self):
         """Makes the roster, and waits for it."""
         self.of("#plan", "it.click()")
-        self.wait_for("#plan-state", "/^(Done|Refused|Stopped|There|Something)/.test(it.textContent)")
+        self.wait_for("#plan-state",
+                      "/^(Done|Refused|Stopped|There|Something)/.test(it.textContent)")
 
     def told(self):
         """What is told of the roster."""
@@ -201,9 +202,11 @@ class Roster(Page):
     def test_a_wish_is_granted_or_refused_by_a_click(self):
         self.write("#wishes", WISHES)
         self.plan()
-        for gain, said, column in ((7, "granted now: Ben, Mon late. granted no more: Ben, Tue early",
-                                    "must"), (9, "granted now: Ben, Tue early. granted no more: "
-                                              "Ben, Mon late", "never"), (9, "nothing is changed", "")):
+        late, early = "Ben, Mon late", "Ben, Tue early"
+        for gain, said, column in (
+                (7, f"granted now: {late}. granted no more: {early}", "must"),
+                (9, f"granted now: {early}. granted no more: {late}", "never"),
+                (9, "nothing is changed", "")):
             self.of("#plan-table [data-wish='1']", "it.click()")
             self.wait_for("#plan-state", "it.textContent.startsWith('Done')")
             self.assertTrue(self.is_at("#plan-table [data-wish='1']"))

@@ -94,8 +94,9 @@ def drawn(numbers):
     rows, shifts = {}, {}
     for _ in range(numbers.randint(1, 24)):
         row = {"person": numbers.choice(people), "week": numbers.choice(weeks or [""]),
-               "day": numbers.choice(days or [""]), "shift": numbers.choice(["early", "late", "x y"]),
-               "gain": numbers.choice([str(numbers.randint(-3, 30)), f"{numbers.randint(1, 9)}.5"]),
+               "day": numbers.choice(days or [""]),
+               "shift": numbers.choice(["early", "late", "x y"]),
+               "gain": numbers.choice([f"{numbers.randint(-3, 30)}", f"{numbers.randint(1, 9)}.5"]),
                "kind": numbers.choice(kinds or [""])}
         row.update({it: numbers.choice(["", "", "yes", "no"]) for it in more})
         rows[tuple(row[it] for it in ("person", "week", "day", "shift"))] = row
@@ -106,14 +107,16 @@ def drawn(numbers):
         most = numbers.randint(0, 3)
         limits.append([shift, "", most, numbers.choice(["", "", numbers.randint(0, 3)]), "", ""])
         if kinds and numbers.random() < 0.3:
-            limits.append([shift, "night", numbers.choice(["", 1]), numbers.choice(["", 1]), "", ""])
+            most, least = (numbers.choice(["", 1]) for _ in range(2))
+            limits.append([shift, "night", most, least, "", ""])
     for person in people:
         limits.append([person, "", numbers.randint(0, 5), "", numbers.choice(["", "", 1, 2]),
                        numbers.choice(["", "", 1, 2])])
         if kinds and numbers.random() < 0.3:
             limits.append([person, "night", numbers.randint(0, 2), "", "", ""])
     sign = numbers.choice(",;\t")
-    return tuple("".join(sign.join(map(str, line)) + "\n" for line in it) for it in (wishes, limits))
+    return tuple("".join(sign.join(map(str, line)) + "\n" for line in it)
+                 for it in (wishes, limits))
 
 
 def by_package(folder, wishes, limits):

@@ -3,8 +3,8 @@
 /** The signs that a name of an element may have. */
 const MOST_SIGNS = 32;
 const PLAIN_LETTERS = new Map(
-  Object.entries({ ß: "ss", æ: "ae", Æ: "Ae", ø: "o", Ø: "O", ł: "l", Ł: "L", đ: "d", Đ: "D", ð: "d", þ: "th", œ: "oe", ı: "i", "–": "-" }),
-);
+  Object.entries({ ß: "ss", æ: "ae", Æ: "Ae", ø: "o", Ø: "O", ł: "l", Ł: "L", đ: "d", Đ: "D", ð: "d", þ: "th", œ: "oe", ı: "i" }),
+).set("–", "-");
 
 /** Whether a sign stands on the one before: whether Unicode orders it among such signs. */
 function isCombining(sign) {

@@ -85,10 +85,14 @@ export class Roster {
     const [there, mine] = [this.inShift(wish.shift), this.ofPerson(wish.person)];
     const onDay = mine.filter((it) => it.shift.week === wish.shift.week && it.shift.day === wish.shift.day).length;
     const inWeek = mine.filter((it) => it.shift.week === wish.shift.week).length;
+    const ofKind = [there, mine].map((granted) => granted.filter((it) => it.kind === wish.kind).length);
+    const [kindOfShift, kindOfOwn] = [limit.kinds.get(wish.kind)?.most ?? null, own.kinds.get(wish.kind) ?? null];
     const reasons = [
       [there.length >= limit.most, `${wish.shift.title} has ${there.length} of ${limit.most}`],
       [mine.length >= own.most, `${wish.person} has ${mine.length} of ${own.most}`],
       [own.day !== null && onDay >= own.day, `${wish.person} has ${onDay} of ${own.day} on this day`],
+      [kindOfShift !== null && ofKind[0] >= kindOfShift, `${wish.shift.title} has ${ofKind[0]} of ${kindOfShift} of ${wish.kind}`],
+      [kindOfOwn !== null && ofKind[1] >= kindOfOwn, `${wish.person} has ${ofKind[1]} of ${kindOfOwn} of ${wish.kind}`],
       [own.week !== null && inWeek >= own.week, `${wish.person} has ${inWeek} of ${own.week} in this week`],
     ];
     const found = reasons.filter(([holds]) => holds).map(([, why]) => why);
@@ -193,8 +197,8 @@ export function fillPeople(table, roster) {
     const refused = [...wishes.keys()].filter((it) => wishes[it].person === person && !roster.granted.has(it));
     const why = refused.map((it) => `${wishes[it].shift.title}: ${roster.whyNot(it)}`);
     const cells = [`${own.length} of ${most}`, spelled(own.reduce((sum, it) => sum + it.gain, 0n)), own.map((it) => it.shift.title).join(", ")];
-    const list = made("ul", {}, ...why.map((textContent) => made("li", { textContent })));
-    return made("tr", {}, made("th", { scope: "row", textContent: person }), ...cells.map((textContent) => made("td", { textContent })), made("td", {}, list));
+    const list = made("td", {}, made("ul", {}, ...why.map((textContent) => made("li", { textContent }))));
+    return made("tr", {}, made("th", { scope: "row", textContent: person }), ...cells.map((textContent) => made("td", { textContent })), list);
   });
   table.replaceChildren(made("thead", {}, headsOf("person", "shifts", "gain", "granted", "refused, and why")), made("tbody", {}, ...rows));
 }

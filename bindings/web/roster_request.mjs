@@ -11,8 +11,8 @@ const MOST_OF_LIMIT = 10_000;
 const keyOf = (...words) => JSON.stringify(words);
 
 /**
- * The shifts of the rows by week, day and name, each with its title: the name alone, or with the day, or with both in front, so that no two are called
- * the same.
+ * The shifts of the rows by week, day and name, each with its title: the name alone, or with the day, or with both in front, so that no two are
+ * called the same.
  */
 function shiftsOf(rows) {
   const found = new Map();
@@ -134,10 +134,8 @@ function limitOfShift(rows) {
   if (demanded > most) throw whole.fault(`at least ${demanded} are more than at most ${most}`, "least");
   if (least && kinds.size > 0) {
     const name = whole.of("name");
-    throw whole.fault(
-      `${name} has a least number for all, and a limit for ${[...kinds.keys()].join(", ")}: both at once cannot be said. Give least numbers to kinds alone`,
-      "least",
-    );
+    const what = `${name} has a least number for all, and a limit for ${[...kinds.keys()].join(", ")}`;
+    throw whole.fault(`${what}: both at once cannot be said. Give least numbers to kinds alone`, "least");
   }
   return { most, least, kinds };
 }

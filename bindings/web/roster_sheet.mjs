@@ -114,7 +114,7 @@ export class RosterSheet {
     this.at("wishes-note").textContent = "";
     const table = this.#readWishes(text);
     if (table) this.grid.show(table.heads, table.rows.map((row) => table.heads.map((head) => row.of(head))));
-    else if (!text.trim()) this.grid.show(FIRST_HEADS, [FIRST_HEADS.map(() => "")]);
+    else if (!text.trim()) this.grid.show([...FIRST_HEADS], [FIRST_HEADS.map(() => "")]);
     else this.grid.show([], []);
     this.linesShown = new Map(table?.rows.map((row, place) => [row.line, place]));
     this.#markWishes();
@@ -147,7 +147,8 @@ export class RosterSheet {
     this.grid.mark(faults.map((it) => [this.linesShown.get(it.line), it.column, it.message]));
     if (faults.length === 0) return;
     const [{ line, message }] = faults;
-    this.at("wishes-fault").textContent = `${faults.length === 1 ? "One cell is" : `${faults.length} cells are`} not understood; line ${line}: ${message}.`;
+    const count = faults.length === 1 ? "One cell is" : `${faults.length} cells are`;
+    this.at("wishes-fault").textContent = `${count} not understood; line ${line}: ${message}.`;
   }
 
   #takeLimits(text) {

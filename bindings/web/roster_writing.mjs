@@ -13,8 +13,8 @@ const MORE = ".more";
 /** Whether a wish counts for a least number, and whether it may be granted beyond that. */
 function demandsOf(wish, request) {
   const limit = request.shifts.get(wish.shift);
-  const counts = limit.least > 0 || (limit.kinds.get(wish.kind)?.least ?? 0) > 0;
-  return [counts, !counts || limit.most > demandedOf(limit)];
+  const least = limit.least || (limit.kinds.get(wish.kind)?.least ?? 0);
+  return [least > 0, limit.most > least];
 }
 
 /** The elements { wish, name, counts }: each wish that may be granted, and once more where it may count for a least number or not. */
@@ -40,40 +40,42 @@ function groupedBy(numbers, key) {
   return found;
 }
 
-/** What limits a shift: families { name, most, members } for least numbers, those beyond, and within these the kinds. */
+/**
+ * What limits a shift, as families { name, most, members }: with a least number for all, those that count for it, and those beyond; else all, within
+ * these the kinds, and within these those that count for least numbers.
+ */
 function familiesOfShift(shift, members, { request, elements }) {
-  const limit = request.shifts.get(shift);
-  const isOfKind = (it, kind) => request.wishes[elements[it].wish].kind === kind;
+  const { most, least, kinds } = request.shifts.get(shift);
   const [first, beyond] = [true, false].map((counts) => members.filter((it) => elements[it].counts === counts));
-  const found = [];
-  if (limit.least) found.push({ name: shift.title, most: limit.least, members: first });
-  for (const [kind, { least }] of limit.kinds) {
-    if (least) found.push({ name: `${shift.title}, ${kind}`, most: least, members: first.filter((it) => isOfKind(it, kind)) });
+  if (least) {
+    const found = [{ name: shift.title, most: least, members: first }];
+    return beyond.length > 0 ? [...found, { name: shift.title, most: most - least, members: beyond }] : found;
   }
-  if (beyond.length > 0) found.push({ name: shift.title, most: limit.most - demandedOf(limit), members: beyond });
-  for (const [kind, { most, least }] of limit.kinds) {
-    const ofKind = beyond.filter((it) => isOfKind(it, kind));
-    if (most !== null && ofKind.length > 0) found.push({ name: `${shift.title}, ${kind}`, most: most - least, members: ofKind });
+  const found = [{ name: shift.title, most, members }];
+  for (const [kind, limit] of kinds) {
+    const [ofKind, counted] = [members, first].map((them) => them.filter((it) => request.wishes[elements[it].wish].kind === kind));
+    const name = `${shift.title}, ${kind}`;
+    if (limit.most !== null && ofKind.length > 0) found.push({ name, most: limit.most, members: ofKind });
+    if (counted.length > 0) found.push({ name, most: limit.least, members: counted });
   }
   return found;
 }
 
-/** What limits a person, the smallest sets first: the two elements of a wish, a day, a week, all, and the kinds. */
+/** What limits a person: in all, in a week, on a day, by the two elements of a wish, and by kinds. */
 function familiesOfPerson(person, members, { request, elements }) {
   const limit = request.people.get(person);
   const wishOf = (it) => request.wishes[elements[it].wish];
   const parts = [
-    [1, (it) => elements[it].wish, () => person],
-    [limit.day, (it) => JSON.stringify([wishOf(it).shift.week, wishOf(it).shift.day]), (it) => `${person}, ${wishOf(it).shift.day}`],
     [limit.week, (it) => wishOf(it).shift.week, (it) => `${person}, week ${wishOf(it).shift.week}`],
+    [limit.day, (it) => JSON.stringify([wishOf(it).shift.week, wishOf(it).shift.day]), (it) => `${person}, ${wishOf(it).shift.day}`],
+    [1, (it) => elements[it].wish, () => person],
   ];
-  const found = [];
+  const found = [{ name: person, most: limit.most, members }];
   for (const [most, key, name] of parts) {
     for (const group of groupedBy(members, key).values()) {
       if (most !== null && most < Math.min(limit.most, group.length)) found.push({ name: name(group[0]), most, members: group });
     }
   }
-  found.push({ name: person, most: limit.most, members });
   for (const [kind, most] of limit.kinds) {
     const ofKind = members.filter((it) => wishOf(it).kind === kind);
     if (ofKind.length > most) found.push({ name: `${person}, ${kind}`, most, members: ofKind });
@@ -114,7 +116,7 @@ function sidesOf(given) {
   const wishOf = (it) => request.wishes[elements[it].wish];
   const ofShifts = [...groupedBy(places, (it) => wishOf(it).shift)].sort(([a], [b]) => inOrder(a.title, b.title));
   const ofPeople = [...groupedBy(places, (it) => wishOf(it).person)].sort(([a], [b]) => inOrder(a, b));
-  const shifts = ofShifts.flatMap(([shift, members]) => familiesOfShift(shift, members, given));
+  const shifts = ofShifts.flatMap(([shift, members]) => laminarOf(familiesOfShift(shift, members, given))[0]);
   const sides = ofPeople.map(([person, members]) => laminarOf(familiesOfPerson(person, members, given)));
   return [shifts, sides.flatMap(([fitting]) => fitting), sides.flatMap(([, crossing]) => crossing)];
 }
@@ -133,9 +135,8 @@ function weightsOf(request, elements, scale) {
     const [first, second] = numbersOfWeight(it, request, scale, keeping);
     if ([first, second].some((number) => number > MOST_WEIGHT || number < -MOST_WEIGHT)) {
       const { gain, person, shift } = request.wishes[it.wish];
-      throw new TableFault(
-        `The gain ${spelled(gain)} of ${person} for ${shift.title} is too large, with as many decimals as there are: measure all gains in a larger unit.`,
-      );
+      const what = `The gain ${spelled(gain)} of ${person} for ${shift.title} is too large, with as many decimals as there are`;
+      throw new TableFault(`${what}: measure all gains in a larger unit.`);
     }
     return second ? `${first}:${second}` : String(first);
   });
@@ -147,8 +148,8 @@ function holdToElements(elements) {
   const wishes = new Set(elements.map((it) => it.wish)).size;
   const twice = elements.length > wishes ? ` (a wish of a shift with a least number is two elements: ${elements.length} in all)` : "";
   throw new TableFault(
-    `There are ${wishes} wishes${twice}, and a description has at most ${MOST_ELEMENTS} elements: leave out those of the least gain, or make a roster ` +
-      "for each week. The Python package solves weeks together.",
+    `There are ${wishes} wishes${twice}, and a description has at most ${MOST_ELEMENTS} elements: leave out those of the least gain, ` +
+      "or make a roster for each week. The Python package solves weeks together.",
   );
 }
 
@@ -164,6 +165,7 @@ export function writeRequest(request) {
       `${crossing.length} limits cross the others (${names.join("; ")}), as nights cross days: the page cannot keep them. The Python package can.`,
     );
   }
-  const lines = ["matroids 2", `pair ${elements.length}`, ["elements", ...elements.map((it) => it.name)].join(" "), ["weights", ...weights].join(" ")];
+  const names = elements.map((it) => it.name);
+  const lines = ["matroids 2", `pair ${elements.length}`, ["elements", ...names].join(" "), ["weights", ...weights].join(" ")];
   return { elements, text: [...lines, ...matroidOf(shifts, elements), ...matroidOf(people, elements), "end", ""].join("\n") };
 }

@@ -17,11 +17,12 @@ export const UNIT = 10n ** BigInt(DECIMALS);
 
 /** What says yes and no, in several languages. */
 const YES = new Set(
-  ("yes y x true 1 ✓ ✔ ☑ ja wahr oui vrai si sì sí vero verdadero sim verdadeiro tak prawda ano áno igen da да evet kyllä jah taip jā ναι так " +
-    "是 はい 예 네 نعم כן").split(" "),
+  ("yes y x true 1 ✓ ✔ ☑ ja wahr oui vrai si sì sí vero verdadero sim verdadeiro tak prawda ano áno igen da " +
+    "да evet kyllä jah taip jā ναι так 是 はい 예 네 نعم כן").split(" "),
 );
 const NO = new Set(
-  ("no n false 0 - – ☐ nein falsch nee non faux falso não nao nie fałsz ne nem nu нет ні hayır ei nej nei όχι 否 いいえ 아니요 لا לא").split(" "),
+  ("no n false 0 - – ☐ nein falsch nee non faux falso não nao nie fałsz ne nem nu нет ні hayır ei nej nei όχι " +
+    "否 いいえ 아니요 لا לא").split(" "),
 ).add("");
 
 /** What is wrong with a table, in words, and where: the number of a line and a column, or null for each that it has not. */
