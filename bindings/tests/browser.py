@@ -143,7 +143,7 @@ class Chromium(Browser):
     """Chromium, by the pipes of its debugging protocol."""
 
     name, last_command = "chromium", "Browser.close"
-    keys = {"Enter": 13, "Escape": 27, "Tab": 9}
+    keys = {"Enter": 13, "Escape": 27, "Tab": 9, "ArrowLeft": 37, "ArrowRight": 39}
 
     def __init__(self, program):
         super().__init__()
@@ -260,7 +260,8 @@ class Firefox(Browser):
     does."""
 
     name, last_command = "firefox", "browser.close"
-    keys = {"Enter": "\ue007", "Escape": "\ue00c", "Tab": "\ue004"}
+    keys = {"Enter": "\ue007", "Escape": "\ue00c", "Tab": "\ue004", "ArrowLeft": "\ue012",
+            "ArrowRight": "\ue014"}
 
     def __init__(self, program):
         super().__init__()

@@ -658,7 +658,7 @@ class OneFile(Page):
         self.solve_while_typing(False)
 
     def test_it_is_small(self):
-        self.assertLess(pages.PAGE.stat().st_size, 700_000)
+        self.assertLess(pages.PAGE.stat().st_size, 800_000)
 
     def test_the_same_files_give_the_same_bytes(self):
         for seed in ("1", "2"):

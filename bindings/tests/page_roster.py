@@ -13,7 +13,7 @@ WISHES = ("person,day,shift,gain\nAda,Mon,Mon early,5\nBen,Mon,Mon late,2\nAda,T
           "Ben,Tue,Tue early,4\n")
 #: Names that are markup, or what a spreadsheet would take for a formula.
 HOSTILE = ("person,shift,gain\n<img src=x onerror=ran=1>,<script>ran=1</script>,5\n"
-           "\"'><svg onload=ran=1>,=ran(1),2\nConstructor,__proto__,1\n")
+           "\"\"\"'><svg onload=ran=1>\",=ran(1),2\nconstructor,__proto__,1\n")
 
 
 class Roster(Page):

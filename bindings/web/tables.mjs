@@ -221,9 +221,12 @@ function markOf(words, column) {
     const both = word.includes(",") && word.includes(".");
     commas ||= both ? word.lastIndexOf(",") > word.lastIndexOf(".") : /,(\p{Nd}{1,2}|\p{Nd}{4,})$/u.test(word);
     points ||= both ? word.lastIndexOf(".") > word.lastIndexOf(",") : /\.(\p{Nd}{1,2}|\p{Nd}{4,})$/u.test(word);
-    if (!both && /\p{Nd}[.,]\p{Nd}{3}$/u.test(word) && word[0] !== "0") doubtful ??= { row, word };
+    commas ||= word.split(".").length > 2;
+    points ||= word.split(",").length > 2;
+    if (!both && /^[+-]?[1-9]\p{Nd}*[.,]\p{Nd}{3}$/u.test(word)) doubtful ??= { row, word };
     if (commas && points) {
-      throw row.fault(`${column} has decimals behind commas in some lines and behind points in others: write them in one way`, column);
+      const what = `${column} has decimals behind commas in some lines and behind points in others, here '${word}'`;
+      throw row.fault(`${what}: write them in one way`, column);
     }
   }
   if (doubtful && !commas && !points) {
