@@ -1,9 +1,9 @@
 """Tests of the page's sheet for a roster: from pasted cells to a plan."""
-import json
 import pathlib
 import tempfile
 
-from opened_page import TOP, Page
+from opened_page import TOP
+from page_sheet import SheetPage
 
 import matbench  # opened_page has its folder searched
 
@@ -16,31 +16,10 @@ HOSTILE = ("person,shift,gain\n<img src=x onerror=ran=1>,<script>ran=1</script>,
            "\"\"\"'><svg onload=ran=1>\",=ran(1),2\nconstructor,__proto__,1\n")
 
 
-class Roster(Page):
+class Roster(SheetPage):
     """The sheet of a roster."""
 
-    def setUp(self):
-        super().setUp()
-        self.of("#roster-tab", "it.click()")
-
-    def plan(self):
-        """Makes the roster, and waits for it."""
-        self.of("#plan", "it.click()")
-        self.wait_for("#plan-state",
-                      "/^(Done|Refused|Stopped|There|Something)/.test(it.textContent)")
-
-    def told(self):
-        """What is told of the roster."""
-        return self.text("#plan-told")
-
-    def cells(self, selector):
-        """The cells of a table, row by row."""
-        return self.of_all(f"{selector} tr", "[...it.cells].map((cell) => cell.textContent)")
-
-    def type_into(self, label, value):
-        """Types into the cell of this label, or makes it empty."""
-        self.of(f"[aria-label={json.dumps(label)}]",
-                f"(it.value = {json.dumps(value)}, it.dispatchEvent(new Event('change')))")
+    name = "roster"
 
     def test_the_page_begins_with_it(self):
         self.browser.run("sessionStorage.clear()")
@@ -48,73 +27,73 @@ class Roster(Page):
         self.assertTrue(self.of("#roster", "it.checkVisibility()"))
         self.assertFalse(self.of("#text", "it.checkVisibility()"))
         self.plan()
-        self.assertEqual(self.text("#plan-state"), "There are no wishes yet.")
+        self.assertEqual(self.said("state"), "There are no cells yet.")
 
     def test_pasted_cells_become_a_roster(self):
-        self.write("#wishes", WISHES.replace(",", "\t"))
+        self.write_cells(WISHES.replace(",", "\t"))
         self.plan()
-        self.assertTrue(self.told().startswith("2 of 4 wishes are granted, gain 9. No roster"))
-        self.assertEqual(self.cells("#plan-table"), [
+        self.assertTrue(self.said("told").startswith("2 of 4 wishes are granted, gain 9. No roster"))
+        self.assertEqual(self.cells("table"), [
             ["", "Mon early", "Mon late", "Tue early", "granted"],
             ["Ada", "5 granted", "", "3 refused", "1 of 1"],
             ["Ben", "", "2 refused", "4 granted", "1 of 1"],
             ["granted", "1 of 1", "0 of 1", "1 of 1", ""]])
-        self.assertEqual(self.cells("#plan-people")[1:], [
+        self.assertEqual(self.cells("details")[1:], [
             ["Ada", "1 of 1", "5", "Mon early",
              "Tue early: Tue early has 1 of 1 and Ada has 1 of 1"],
             ["Ben", "1 of 1", "4", "Tue early", "Mon late: Ben has 1 of 1"]])
         self.picture("roster")
 
     def test_the_proof_is_that_of_the_program(self):
-        self.write("#wishes", WISHES)
+        self.write_cells(WISHES)
         self.plan()
-        description = self.saved("#save-plan-description", "roster.txt").decode()
-        certificate = self.saved("#save-plan-certificate", "roster.answer").decode()
+        description = self.saved("#roster-proof button:first-child", "roster.txt").decode()
+        certificate = self.saved("#roster-proof button:last-child", "roster.answer").decode()
         self.assertIn("elements Ada.Mon_early Ben.Mon_late Ada.Tue_early Ben.Tue_early\n",
                       description)
         self.assertEqual(certificate, matbench.intersect(description).certificate)
-        self.assertEqual(self.saved("#save-plan", "roster.csv").decode(),
+        self.assertEqual(self.saved("#roster-save", "roster.csv").decode(),
                          "person,day,shift,gain,granted\nAda,Mon,Mon early,5,yes\n"
                          "Ben,Mon,Mon late,2,no\nAda,Tue,Tue early,3,no\n"
                          "Ben,Tue,Tue early,4,yes\n")
-        self.of("#show-plan-text", "it.click()")
+        self.click("show-text")
         self.assertEqual(self.text("#description"), description)
         self.assertTrue(self.of("#description", "it.checkVisibility()"))
 
     def test_limits_are_a_form(self):
-        self.write("#wishes", WISHES)
+        self.write_cells(WISHES)
         self.type_into("Ada, at most", "2")
         self.plan()
-        self.assertIn("gain 10.", self.told())
+        self.assertIn("gain 10.", self.said("told"))
         self.type_into("Mon late, at least", "1")
-        self.assertFalse(self.of("#plan-parts", "it.checkVisibility()"))
+        self.assertFalse(self.of("#roster-result", "it.checkVisibility()"))
         self.type_into("Ada, at most", "1")
         self.plan()
-        self.assertIn("gain 7. What is needed is met.", self.told())
+        self.assertIn("gain 7. What is needed is met.", self.said("told"))
         self.type_into("Ben, at most", "many")
         self.plan()
-        self.assertEqual(self.text("#plan-state"), "Something is not understood yet: it is marked.")
+        self.assertEqual(self.said("state"), "Something is not understood yet: it is marked.")
         self.assertEqual(self.of_all("td.faulty .why", "it.textContent"),
                          ["most is a whole number from 0, and not 'many'"])
 
     def test_what_is_not_understood_is_marked_in_its_cell(self):
-        self.write("#wishes", "person,shift,gain,must\nAda,early,5,\nBen,,x,perhaps\n")
+        self.write_cells("person,shift,gain,must\nAda,early,5,\nBen,,x,perhaps\n")
         found = self.of_all("td.faulty", "[it.querySelector('input').value, "
                             "it.querySelector('.why').textContent]")
         self.assertEqual([value for value, _ in found], ["", "x", "perhaps"])
         self.assertEqual([why for _, why in found][:2],
                          ["the wish has no shift", "gain is a number, and not 'x'"])
         self.assertIn("must is yes or no", found[2][1])
-        self.assertIn("3 cells are not understood", self.text("#wishes-fault"))
+        self.assertIn("3 cells are not understood", self.said("cells-fault"))
         self.picture("roster_faults")
         for label, value in (("shift, line 2", "late"), ("gain, line 2", "4"),
                              ("must, line 2", "ja")):
             self.type_into(label, value)
-        self.assertEqual((self.of_all("td.faulty", "1"), self.text("#wishes-fault")), ([], ""))
-        self.assertEqual(self.text("#wishes"),
+        self.assertEqual((self.of_all("td.faulty", "1"), self.said("cells-fault")), ([], ""))
+        self.assertEqual(self.said("cells"),
                          "person\tshift\tgain\tmust\nAda\tearly\t5\t\nBen\tlate\t4\tja")
         self.plan()
-        self.assertIn("gain 9. What is needed is met.", self.told())
+        self.assertIn("gain 9. What is needed is met.", self.said("told"))
 
     def test_refusals_are_told(self):
         for text, said in (("person,shift\nAda,early\n", "The first line has the columns person"),
@@ -124,95 +103,92 @@ class Roster(Page):
                            ('person,shift,gain\n"Ada,early,1\n', "begins with quotes"),
                            ("person,shift,gain\n" + "Ada,early,1\n" * 10_001, "are too much")):
             with self.subTest(said=said):
-                self.write("#wishes", text)
-                self.assertIn(said, self.text("#wishes-fault"))
+                self.write_cells(text)
+                self.assertIn(said, self.said("cells-fault"))
                 self.plan()
-                self.assertFalse(self.of("#plan-parts", "it.checkVisibility()"))
+                self.assertFalse(self.of("#roster-result", "it.checkVisibility()"))
         lines = "".join(f"P{it},S{it},1\n" for it in range(501))
-        self.write("#wishes", "person,shift,gain\n" + lines)
-        self.assertIn("200 of 501 lines are shown", self.text("#wishes-part"))
-        self.of("#plan", "it.click()")
-        self.assertIn("at most 500 elements", self.text("#limits-fault"))
+        self.write_cells("person,shift,gain\n" + lines)
+        self.assertIn("200 of 501 lines are shown", self.said("cells-part"))
+        self.click("plan")
+        self.assertIn("at most 500 elements", self.said("refusal"))
 
     def test_limits_that_cross_the_others_are_refused(self):
-        self.write("#wishes", "person,day,shift,gain,kind\nAda,Mon,a,1,night\nAda,Mon,b,1,\n"
+        self.write_cells("person,day,shift,gain,kind\nAda,Mon,a,1,night\nAda,Mon,b,1,\n"
                    "Ada,Tue,a,1,night\nAda,Tue,b,1,\n")
         self.type_into("Ada, at most", "3")
         self.type_into("Ada, night, at most", "1")
-        self.of("#plan", "it.click()")
-        self.assertIn("1 limits cross the others (Ada, night)", self.text("#limits-fault"))
+        self.click("plan")
+        self.assertIn("1 limits cross the others (Ada, night)", self.said("refusal"))
 
     def test_a_table_is_typed_by_hand(self):
         for label, value in (("person, line 1", "Ada"), ("shift, line 1", "early"),
                              ("gain, line 1", "2,5")):
             self.type_into(label, value)
-        self.of("#add-wish", "it.click()")
+        self.click("add-line")
         self.assertTrue(self.of("[aria-label='person, line 2']", "it === document.activeElement"))
         self.plan()
-        self.assertIn("1 of 1 wishes are granted, gain 2.5.", self.told())
+        self.assertIn("1 of 1 wishes are granted, gain 2.5.", self.said("told"))
 
     def test_files_are_opened_and_dropped(self):
         with tempfile.TemporaryDirectory() as folder:
             path = pathlib.Path(folder, "wishes.csv")
             path.write_text("sep=;\n" + WISHES.replace(",", ";").replace("Ada", "Zoë"), "utf-16")
-            self.browser.choose_file(path, "#open-wishes")
-            self.wait_for("#wishes-table", "it.rows.length === 5")
+            self.browser.choose_file(path, "#roster-open-cells")
+            self.wait_for("#roster-cells-table", "it.rows.length === 5")
             limits = pathlib.Path(folder, "limits.csv")
             limits.write_text("name,most\nZoë,2\nBen,1\nMon early,1\nMon late,1\nTue early,1\n",
                               "utf-8")
-            self.browser.choose_file(limits, "#open-limits-of-roster")
+            self.browser.choose_file(limits, "#roster-open-limits")
             self.wait_for("[aria-label='Zoë, at most']", "it.value === '2'")
             self.plan()
-            self.assertIn("gain 10.", self.told())
+            self.assertIn("gain 10.", self.said("told"))
             path.write_bytes(WISHES.encode())
-            self.browser.drop(path, "#wishes")
+            self.browser.drop(path, "#roster-cells")
             self.wait_for("[aria-label='person, line 1']", "it.value === 'Ada'")
             path.write_bytes(b"PK\x03\x04")
-            self.browser.choose_file(path, "#open-wishes")
-            self.wait_for("#wishes-fault", "it.textContent.includes('a workbook')")
+            self.browser.choose_file(path, "#roster-open-cells")
+            self.wait_for("#roster-cells-fault", "it.textContent.includes('a workbook')")
 
     def test_hostile_cells_run_nothing(self):
-        elements = "document.querySelectorAll('script, img, svg').length"
-        before = self.browser.run(elements)
-        self.write("#wishes", HOSTILE)
-        self.plan()
-        self.assertIn("3 of 3 wishes are granted, gain 8.", self.told())
-        self.assertEqual(self.cells("#plan-table")[1][0], "<img src=x onerror=ran=1>")
-        self.assertEqual(self.browser.run(elements), before)
-        self.assertTrue(self.browser.run("globalThis.ran === undefined"))
+        self.hold_to_hostile_cells(HOSTILE)
+        self.assertIn("3 of 3 wishes are granted, gain 8.", self.said("told"))
+        self.assertEqual(self.cells("table")[1][0], "<img src=x onerror=ran=1>")
 
     def test_it_is_kept_when_the_page_is_loaded_again_and_in_a_link(self):
-        self.write("#wishes", WISHES)
+        self.write_cells(WISHES)
         self.type_into("Ada, at most", "2")
-        self.of("#roster-link", "it.click()")
-        self.browser.wait("location.hash.startsWith('#roster,,')")
-        link = self.browser.run("location.href")
-        self.load_again()
+        link = self.load_again_as_kept()
         self.assertTrue(self.of("#roster", "it.checkVisibility()"))
         self.plan()
-        self.assertIn("gain 10.", self.told())
-        self.browser.run("Storage.prototype.setItem = () => {}; sessionStorage.clear()")
-        self.open(self.address)
-        self.assertEqual(self.text("#wishes"), "")
-        self.open(link)
-        self.wait_for("#wishes", "it.value")
+        self.assertIn("gain 10.", self.said("told"))
+        self.open_in_new_tab(link)
         self.plan()
-        self.assertIn("gain 10.", self.told())
+        self.assertIn("gain 10.", self.said("told"))
+
+    def test_what_was_written_comes_back(self):
+        self.write_cells(WISHES)
+        self.show_example()
+        self.assertNotEqual(self.said("cells"), WISHES)
+        self.click("cells-back")
+        self.assertEqual(self.said("cells"), WISHES)
+        self.type_into("gain, line 1", "6")
+        self.assertFalse(self.of("#roster-cells-back", "it.checkVisibility()"))
 
     def test_a_wish_is_granted_or_refused_by_a_click(self):
-        self.write("#wishes", WISHES)
+        self.write_cells(WISHES)
         self.plan()
         late, early = "Ben, Mon late", "Ben, Tue early"
         for gain, said, column in (
-                (7, f"granted now: {late}. granted no more: {early}", "must"),
-                (9, f"granted now: {early}. granted no more: {late}", "never"),
+                (7, f"in now: {late}. out now: {early}", "must"),
+                (9, f"in now: {early}. out now: {late}", "never"),
                 (9, "nothing is changed", "")):
-            self.of("#plan-table [data-wish='1']", "it.click()")
-            self.wait_for("#plan-state", "it.textContent.startsWith('Done')")
-            self.assertTrue(self.is_at("#plan-table [data-wish='1']"))
-            self.assertIn(f"gain {gain}.", self.told())
-            self.assertIn(said, self.text("#plan-changes"))
-            self.assertEqual(self.of("#plan-table [data-wish='1']", "it.textContent"),
+            self.of("#roster-table [data-place='1']", "it.click()")
+            self.wait_for("#roster-state", "it.textContent.startsWith('Done')")
+            self.assertTrue(self.is_at("#roster-table [data-place='1']"))
+            self.assertIn(f"gain {gain}.", self.said("told"))
+            self.assertIn(said, self.said("changes"))
+            self.assertEqual(self.of("#roster-table [data-place='1']", "it.textContent"),
                              "2 granted must" if column == "must" else
                              f"2 refused {column}".rstrip())
             marked = [it for it in ("must", "never")
@@ -220,41 +196,63 @@ class Roster(Page):
             self.assertEqual(marked, [column] if column else [])
 
     def test_one_more_place_is_tried_in_each_limit(self):
-        self.write("#wishes", WISHES)
+        self.write_cells(WISHES)
         self.plan()
-        self.of("#one-more", "it.click()")
-        self.wait_for("#plan-state", "it.textContent === 'One more place is tried in each limit.'")
-        self.assertEqual(self.cells("#more-table")[1:],
-                         [["Ben", "1", "0", "2"], ["Ada", "1", "0", "1"]])
+        self.click("one-more")
+        self.wait_until_said("One more place is tried in each limit.")
+        self.assertEqual(self.cells("more")[1:], [["Ben", "1", "2"], ["Ada", "1", "1"]])
+
+    def test_the_second_best_is_found(self):
+        self.write_cells(WISHES)
+        self.plan()
+        self.click("second")
+        self.wait_until_said("The second best plan is found.")
+        self.assertEqual(self.said("other-told"), "The second best plan: it gains 2 less.")
+        self.assertEqual(self.cells("other")[1:],
+                         [["out", "Ben, Tue early"], ["in", "Ben, Mon late"]])
+        self.write_cells("person,shift,gain\nAda,early,5\nBen,early,5\n")
+        self.plan()
+        self.click("second")
+        self.wait_until_said("The second best plan is found.")
+        self.assertEqual(self.said("other-told"), "Another plan is as good.")
+        self.write_cells("person,shift,gain,must\nAda,early,5,yes\n")
+        self.plan()
+        self.click("second")
+        self.wait_until_said("The second best plan is found.")
+        self.assertEqual(self.said("other-told"),
+                         "The second best plan: it meets 1 less of what is needed, and gains 5 less.")
 
     def test_trying_places_can_be_stopped(self):
         wishes = "".join(f"P{it % 25},S{it // 25},{it % 17}\n" for it in range(450))
-        self.write("#wishes", "person,shift,gain\n" + wishes)
+        self.write_cells("person,shift,gain\n" + wishes)
         self.plan()
-        self.of("#one-more", "it.click()")
-        self.wait_for("#plan-state", "it.textContent.startsWith('One more place: 1 of')")
-        self.of("#stop-plan", "it.click()")
-        self.wait_for("#stop-plan", "it.hidden")
-        self.assertEqual(self.text("#plan-state"), "Stopped.")
-        self.assertEqual(self.cells("#more-table"), [])
+        self.click("one-more")
+        self.wait_for("#roster-state", "it.textContent.startsWith('One more place: 1 of')")
+        self.click("stop")
+        self.wait_for("#roster-stop", "it.hidden")
+        self.assertEqual(self.said("state"), "Stopped.")
+        self.assertEqual(self.cells("more"), [])
 
     def test_the_example_and_the_tabs(self):
-        self.of("#wishes-example", "it.click()")
-        self.assertEqual(self.text("#wishes"), (TOP / "examples" / "week.csv").read_text())
+        self.show_example()
+        self.assertEqual(self.said("cells"), (TOP / "examples" / "week.csv").read_text())
         self.assertEqual(self.of("[aria-label='Ada, at most']", "it.value"), "2")
         self.plan()
-        self.assertIn("No roster within these limits gains more", self.told())
+        self.assertIn("No roster within these limits gains more", self.said("told"))
         self.of("#roster-tab", "it.focus()")
-        self.browser.press("ArrowRight")
+        self.browser.press("ArrowLeft")
         self.assertTrue(self.is_at("#text-tab"))
         self.assertTrue(self.of("#text", "it.checkVisibility()"))
-        self.browser.press("ArrowLeft")
+        self.browser.press("ArrowRight")
         self.assertTrue(self.is_at("#roster-tab"))
 
-    def test_it_fits_a_narrow_window(self):
-        self.of("#wishes-example", "it.click()")
+    def test_least_numbers_of_the_example(self):
+        self.show_example(1)
+        self.assertEqual(self.of("[aria-label='Sunday day, at least']", "it.value"), "1")
         self.plan()
-        for width in (360, 1400):
-            self.browser.resize(width, 900)
-            self.assertLessEqual(self.browser.run("document.documentElement.scrollWidth"), width)
-            self.picture(f"roster_{width}")
+        self.assertIn("What is needed is met.", self.said("told"))
+
+    def test_it_fits_narrow_and_wide_windows(self):
+        self.show_example()
+        self.plan()
+        self.hold_to_windows()

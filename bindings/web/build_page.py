@@ -17,9 +17,13 @@ import zlib
 HERE = os.path.dirname(os.path.abspath(__file__))
 #: The parts of the one file's script, each before those that take from it.
 SCRIPT = ("matbench.mjs", "run.mjs", "textbox.mjs", "link.mjs", "kept.mjs", "answer.mjs",
-          "tables.mjs", "grid.mjs", "tabs.mjs", "roster_names.mjs", "roster_request.mjs",
-          "roster_writing.mjs", "roster_plan.mjs", "roster_limits.mjs", "roster_sheet.mjs",
-          "page.mjs")
+          "tables.mjs", "grid.mjs", "tabs.mjs", "names.mjs", "answers.mjs", "calls.mjs",
+          "choices.mjs", "cells.mjs", "limits_form.mjs", "more_plans.mjs", "roster_request.mjs",
+          "roster_writing.mjs", "roster_tables.mjs", "roster_plan.mjs", "roster_kind.mjs",
+          "joined_places.mjs", "network_request.mjs", "network_writing.mjs", "network_tables.mjs",
+          "network_tree.mjs", "network_failures.mjs", "network_kind.mjs", "pebbles.mjs",
+          "frame_request.mjs", "frame_analysis.mjs", "frame_plan.mjs", "frame_kind.mjs",
+          "sheet.mjs", "page.mjs")
 #: The files of the page.
 PAGE = ("index.html", "style.css", "parts.mjs", "matbench.d.mts", "worker.mjs", *SCRIPT)
 #: parts.mjs of the one file, and a function that takes what `packed` made.
@@ -183,9 +187,48 @@ def version(help_source):
     return re.search(r'const VERSION: &str = "(matbench [\w.]+)\\n";', help_source)[1]
 
 
-def sheet(top, wishes, limits):
-    """The example of a sheet: two tables of examples/."""
-    return {"wishes": read(top, "examples", wishes), "limits": read(top, "examples", limits)}
+def posts(top, name):
+    """The cells of a sheet of posts that say what the `table` of examples/ says."""
+    cells = re.findall(r"^cell (\d+) (\d+) (-?\d+)$", read(top, "examples", name), re.M)
+    lines = [f"Applicant {row},Post {column},{gain}\n" for row, column, gain in cells]
+    return "".join(["applicant,post,gain\n", *lines])
+
+
+def network(top, name):
+    """The cells and the limits of a sheet of a network that say what the `pair` of a `graphic` and a
+    `partition` of examples/ says."""
+    text = read(top, "examples", name)
+    gains = re.search(r"^weights (.*)$", text, re.M)[1].split()
+    classes = [line.split() for line in re.findall(r"^class (.*)$", text, re.M)]
+    owner = {link: place for place, (_, *links) in enumerate(classes) for link in links}
+    edges = re.findall(r"^edge (\d+) (\d+)$", text, re.M)
+    cells = [f"Link {link},Town {one},Town {other},{gain},Owner {owner[str(link)]}\n"
+             for link, ((one, other), gain) in enumerate(zip(edges, gains, strict=True))]
+    limits = [f"Owner {place},{most}\n" for place, (most, *_) in enumerate(classes)]
+    return {"cells": "".join(["link,from,to,gain,owner\n", *cells]),
+            "limits": "".join(["name,most\n", *limits])}
+
+
+def sheets(top):
+    """The examples of each sheet, of examples/: what each is called, its cells and its limits."""
+    def table(name):
+        return read(top, "examples", name)
+    return {
+        "roster": [
+            {"title": "a week", "cells": table("week.csv"), "limits": table("week_limits.csv")},
+            {"title": "a weekend with least numbers", "cells": table("wishes.csv"),
+             "limits": table("limits_least.csv")}],
+        "posts": [{"title": "four posts", "cells": posts(top, "posts.txt")}],
+        "network": [
+            {"title": "which links to build", **network(top, "network.txt"),
+             "choices": {"task": "tree"}},
+            {"title": "how many failures it stands", "cells": table("islands.csv"),
+             "choices": {"task": "failures"}}],
+        "frame": [
+            {"title": "a truss", "cells": table("warren.csv")},
+            {"title": "a truss that moves", "cells": table("squares.csv")},
+            {"title": "a platform of bodies", "cells": table("platform.csv"),
+             "choices": {"space": "space"}}]}
 
 
 def data(top):
@@ -194,8 +237,7 @@ def data(top):
     help_source = read(top, "crates", "mat_main", "src", "help.rt")
     known = commands(help_source, formats)
     return {"VERSION": version(help_source), "COMMANDS": known, "EXAMPLES": examples(top, known),
-            "LIMITS": limits(formats), "SHEETS": {"roster": sheet(top, "week.csv", "week_limits.csv")},
-            "FAULTS": faults(formats), "REASONS": reasons(formats)}
+            "LIMITS": limits(formats), "SHEETS": sheets(top), "FAULTS": faults(formats), "REASONS": reasons(formats)}
 
 
 def data_module(parts):
@@ -208,11 +250,16 @@ def data_module(parts):
 
 
 def joined(texts):
-    """Modules as one script: what they take from each other and what they hand out is all in one
-    scope."""
-    whole = "".join(texts)
-    whole = re.sub(r"^import [^;]*;\n", "", whole, flags=re.M)
-    return re.sub(r"^export ", "", whole, flags=re.M)
+    """Modules as one script. Each is a function there, so that what it does not hand out is its own;
+    what it hands out has one name for all."""
+    parts = []
+    for text in texts:
+        handed = re.findall(r"^export (?:async )?(?:function\*? |class |const )(\w+)", text, re.M)
+        body = re.sub(r"^import [^;]*;\n", "", text, flags=re.M)
+        body = re.sub(r"^export ", "", body, flags=re.M)
+        names = ", ".join(handed)
+        parts.append(f"const {{ {names} }} = (() => {{\n{body}return {{ {names} }};\n}})();\n")
+    return "".join(parts)
 
 
 def source_of(text):

@@ -1,10 +1,13 @@
 // The page: what its elements do.
 import { AnswerParts } from "./answer.mjs";
 import { COMMANDS, EXAMPLES, FAULTS, LIMITS, REASONS, SHEETS, VERSION } from "./data.mjs";
+import { frameKind } from "./frame_kind.mjs";
 import { keep, kept } from "./kept.mjs";
 import { fragmentOf, MOST_DESCRIPTION, problemOf } from "./link.mjs";
-import { RosterSheet } from "./roster_sheet.mjs";
+import { networkKind } from "./network_kind.mjs";
+import { postsKind, rosterKind } from "./roster_kind.mjs";
 import { moduleOfProgram, Run } from "./run.mjs";
+import { Sheet } from "./sheet.mjs";
 import { Tabs } from "./tabs.mjs";
 import { TextBox } from "./textbox.mjs";
 
@@ -33,8 +36,12 @@ const SHOWN = [
   ["--tell", "Telling it", (text) => parts.tell(text)],
   ["--picture", "Drawing it", (svg) => parts.draw(svg)],
 ];
-const tabs = new Tabs({ roster: at("roster-tab"), text: at("text-tab") }, { roster: at("roster"), text: at("text") });
-const sheet = new RosterSheet(at, { save, showText, example: SHEETS.roster });
+/** The kinds of sheets, by the names of their tabs. */
+const KINDS = {
+  roster: rosterKind(SHEETS.roster), posts: postsKind(SHEETS.posts), network: networkKind(SHEETS.network), frame: frameKind(SHEETS.frame),
+};
+const sheets = Object.fromEntries(Object.entries(KINDS).map(([name, kind]) => [name, new Sheet(kind, at(name), { save, showText, copyLink: copyLinkOf })]));
+const tabs = new Tabs([...Object.keys(KINDS), "text"], at);
 let running = null;
 /** The button that began the last run. */
 let begunBy = at("solve");
@@ -325,9 +332,9 @@ function problemOfPage() {
 }
 
 /** Shows a description among the texts, where it can be changed. */
-function showText(text) {
+function showText(problem) {
   tabs.show("text");
-  setGivenProblem({ command: "intersect", text });
+  setGivenProblem(problem);
   description.area.focus();
 }
 
@@ -335,9 +342,9 @@ async function copyLink() {
   say(await copied(problemOfPage(), "description"));
 }
 
-/** What is typed into the sheet, as a link holds it. */
-function problemOfSheet() {
-  return { command: "roster", count: "", text: JSON.stringify(sheet.state) };
+/** Copies a link that holds what is typed into a sheet. */
+async function copyLinkOf(sheet) {
+  sheet.say(await copied({ command: sheet.kind.name, count: "", text: JSON.stringify(sheet.state) }, "cells and limits"));
 }
 
 /** Copies a link that holds a problem, and answers what is said of it. */
@@ -350,20 +357,19 @@ async function copied(problem, what) {
   return isCopied ? `The link is copied. It holds the ${what}.` : `The address of this page now holds the ${what}.`;
 }
 
-/** Puts what a link holds into the sheet, and answers whether it holds such a thing. */
-function takeSheet(text) {
+/** Puts what a link holds into a sheet, unless it is no such thing. */
+function takeSheet({ command, text }) {
   try {
-    sheet.state = JSON.parse(text);
-    tabs.show("roster");
-    return true;
+    sheets[command].state = JSON.parse(text);
+    tabs.show(command);
   } catch {
-    return false;
+    at("unable").textContent = "The link is of a sheet, and is broken.";
   }
 }
 
 async function followLink() {
   const problem = await problemOf(location.hash);
-  if (problem?.command === "roster") return takeSheet(problem.text) && null;
+  if (problem && Object.hasOwn(sheets, problem.command)) return takeSheet(problem) && null;
   if (problem) tabs.show("text");
   const shown = problemOfPage();
   if (problem && Object.keys(shown).some((it) => shown[it] !== problem[it])) setGivenProblem(problem);
@@ -372,17 +378,19 @@ async function followLink() {
 
 /** Keeps what stands in the page, or at least the problem, with the fragment under which it stands there. */
 function keepTexts() {
-  const problem = { ...problemOfPage(), fragment: location.hash, live: at("live").checked, tab: tabs.shown, roster: sheet.state };
-  keep({ ...problem, answer: answer.text, answered }, problem, { ...problem, roster: null });
+  const problem = { ...problemOfPage(), fragment: location.hash, live: at("live").checked, tab: tabs.shown };
+  const written = Object.entries(sheets).filter(([, it]) => !it.isEmpty);
+  const whole = { ...problem, sheets: Object.fromEntries(written.map(([name, it]) => [name, it.state])) };
+  keep({ ...whole, answer: answer.text, answered }, whole, problem);
 }
 
 /** Puts back what was kept under this fragment, and answers whether there was anything: it is later than the problem that the fragment holds. */
 function takeKept() {
   const found = kept();
   at("live").checked = found?.live ?? true;
-  if (found?.fragment !== location.hash || !found.text) return false;
+  if (found?.fragment !== location.hash || typeof found.text !== "string") return false;
   tabs.show(found.tab);
-  if (found.roster) sheet.state = found.roster;
+  for (const [name, sheet] of Object.entries(sheets)) if (found.sheets?.[name]) sheet.state = found.sheets[name];
   putBack(description, found.text, !EXAMPLES.some((it) => it.text === found.text));
   setCommand(found);
   if (found.answer) putBack(answer, found.answer, !found.answered);
@@ -412,7 +420,7 @@ function onKey(event) {
 function stop() {
   clearTimeout(pause);
   running?.stop();
-  sheet.stop();
+  for (const it of Object.values(sheets)) it.stop();
 }
 
 // --- The beginning ---
@@ -425,7 +433,6 @@ function listen() {
   at("check").addEventListener("click", () => begin("check", check));
   at("stop").addEventListener("click", stop);
   at("link").addEventListener("click", copyLink);
-  at("roster-link").addEventListener("click", async () => (at("plan-state").textContent = await copied(problemOfSheet(), "wishes and limits")));
   at("save-description").addEventListener("click", () => save(description.text, "description.txt"));
   at("save-answer").addEventListener("click", () => save(answer.text, `${answered ?? "answer"}.answer`));
   at("save-picture").addEventListener("click", () => save(parts.svg, `${answered ?? "answer"}.svg`, "image/svg+xml"));
@@ -458,7 +465,8 @@ async function start() {
   }
   moduleOfProgram().catch((error) => {
     at("unable").textContent = error.message;
-    at("solve").disabled = at("check").disabled = at("plan").disabled = true;
+    at("solve").disabled = at("check").disabled = true;
+    for (const it of Object.values(sheets)) it.at("plan").disabled = true;
   });
 }
 

@@ -1,6 +1,6 @@
 // A request for a roster as a description, a `pair` of the limits of shifts and of people, by the rules of the Python package
 // (matbench/roster/writing.py): the same tables give the same bytes.
-import { namesOfWishes } from "./roster_names.mjs";
+import { namesOfWishes } from "./names.mjs";
 import { demandedOf } from "./roster_request.mjs";
 import { inOrder, scaleOf, spelled, TableFault, UNIT } from "./tables.mjs";
 
@@ -143,26 +143,27 @@ function weightsOf(request, elements, scale) {
 }
 
 /** Throws TableFault where there are too many elements for one description. */
-function holdToElements(elements) {
+function holdToElements(elements, words) {
   if (elements.length <= MOST_ELEMENTS) return;
-  const wishes = new Set(elements.map((it) => it.wish)).size;
-  const twice = elements.length > wishes ? ` (a wish of a shift with a least number is two elements: ${elements.length} in all)` : "";
+  const count = new Set(elements.map((it) => it.wish)).size;
+  const twice = elements.length > count ? ` (a ${words.wish} of a ${words.shift} with a least number is two elements: ${elements.length} in all)` : "";
   throw new TableFault(
-    `There are ${wishes} wishes${twice}, and a description has at most ${MOST_ELEMENTS} elements: leave out those of the least gain, ` +
-      "or make a roster for each week. The Python package solves weeks together.",
+    `There are ${count} ${words.wishes}${twice}, and a description has at most ${MOST_ELEMENTS} elements: leave out those of the least gain, ` +
+      `or make a ${words.plan} for each part. The Python package solves the weeks of a roster together.`,
   );
 }
 
 /** The description of a request: its text and its elements. Throws TableFault where it is too large, or limits cross the others. */
 export function writeRequest(request) {
   const elements = elementsOf(request);
-  holdToElements(elements);
+  holdToElements(elements, request.words);
   const weights = weightsOf(request, elements, scaleOf(request.wishes.map((it) => it.gain)));
   const [shifts, people, crossing] = sidesOf({ request, elements });
   if (crossing.length > 0) {
     const names = crossing.slice(0, 3).map((it) => it.name);
     throw new TableFault(
-      `${crossing.length} limits cross the others (${names.join("; ")}), as nights cross days: the page cannot keep them. The Python package can.`,
+      `${crossing.length} limits cross the others (${names.join("; ")}), as nights cross days: the page cannot keep both. ` +
+        "Take these numbers out, or those for a day or a week. The Python package keeps both.",
     );
   }
   const names = elements.map((it) => it.name);

@@ -285,3 +285,15 @@ export function inOrder(one, other) {
   }
   return a.length - b.length;
 }
+
+/** Lines of cells as CSV. */
+export function csvOf(lines) {
+  const cell = (it) => (/[",\n\r]/.test(it) ? `"${it.replaceAll('"', '""')}"` : it);
+  return lines.map((it) => `${it.map(cell).join(",")}\n`).join("");
+}
+
+/** Lines of cells as a spreadsheet takes them from the clipboard. */
+export function cellsAsText(lines) {
+  const cell = (it) => (it.startsWith('"') ? `"${it.replaceAll('"', '""')}"` : it);
+  return lines.map((it) => it.map(cell).join("\t")).join("\n");
+}

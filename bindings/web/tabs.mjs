@@ -1,15 +1,16 @@
 // Tabs, of which one is shown. The arrow keys go from one to the next.
 
 export class Tabs {
-  /** `tabs` are buttons and `panels` what they show, each by its name. The first one is shown. */
-  constructor(tabs, panels) {
-    Object.assign(this, { tabs, panels });
-    this.names = Object.keys(tabs);
-    for (const name of this.names) {
+  /** `at` finds by its id the panel of each name, and by that with -tab behind it the button that shows it. The first one is shown. */
+  constructor(names, at) {
+    const byNames = (find) => Object.fromEntries(names.map((it) => [it, find(it)]));
+    const [tabs, panels] = [byNames((it) => at(`${it}-tab`)), byNames(at)];
+    Object.assign(this, { names, tabs, panels });
+    for (const name of names) {
       tabs[name].addEventListener("click", () => this.show(name));
       tabs[name].addEventListener("keydown", (event) => this.#go(event, name));
     }
-    this.show(this.names[0]);
+    this.show(names[0]);
   }
 
   /** Shows the tab of a name, or leaves all as it is if there is none. */

@@ -33,6 +33,15 @@ function rangeOf(text, line) {
   return [from, end < 0 ? text.length : end];
 }
 
+/** The text of a file in UTF-8. */
+async function utf8Of(file) {
+  try {
+    return await file.text();
+  } catch {
+    throw new Error("it could not be read.");
+  }
+}
+
 function buttonFor(text, action) {
   const button = Object.assign(document.createElement("button"), { type: "button", textContent: text });
   button.addEventListener("click", action);
@@ -49,11 +58,11 @@ export class TextBox {
 
   /**
    * `area` is a textarea within a box that has an element of the class `mark`; `fault` is where a fault is told, `part` where it is told how much
-   * is shown, and `back` is the button that brings back what was written. A file may have so many bytes. Of a text of more characters, which would
-   * hold up the browser, the front is shown.
+   * is shown, and `back` is the button that brings back what was written. A file may have so many bytes; `textOf` is its text, or fails with an Error
+   * that says why there is none. Of a text of more characters, which would hold up the browser, the front is shown.
    */
-  constructor({ area, fault, part, back }, mostBytes, mostCharacters) {
-    Object.assign(this, { area, fault, part, back, mostBytes, mostCharacters });
+  constructor({ area, fault, part, back }, mostBytes, mostCharacters, textOf = utf8Of) {
+    Object.assign(this, { area, fault, part, back, mostBytes, mostCharacters, textOf });
     this.mark = area.parentElement.querySelector(".mark");
     this.line = null;
     area.addEventListener("scroll", () => this.#placeMark());
@@ -90,10 +99,16 @@ export class TextBox {
       return;
     }
     try {
-      this.text = await file.text();
-    } catch {
-      this.showFault(null, `${file.name} could not be read.`);
+      this.text = await this.textOf(file);
+    } catch (error) {
+      this.showFault(null, `${file.name}: ${error.message}`);
     }
+  }
+
+  /** Puts a text here that is made of what stood here, as if it were typed. The area has no event then. */
+  rewrite(text) {
+    this.#show(text);
+    this.#given = "";
   }
 
   /**

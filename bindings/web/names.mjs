@@ -1,4 +1,5 @@
-// Names of ASCII for people and shifts in any script, as descriptions want them, by the rules of the Python package (matbench/roster/names.py).
+// Names of ASCII for people, shifts, links and places in any script, as descriptions want them, by the rules of the Python package
+// (matbench/roster/names.py, and names_of in matbench/descriptions.py).
 
 /** The signs that a name of an element may have. */
 const MOST_SIGNS = 32;
@@ -21,7 +22,7 @@ function plainName(text) {
 }
 
 /** A name of ASCII for each text, all different and at most so long: the text itself where it is one, or a letter and a number. */
-function shortNames(texts, letter, most) {
+export function shortNames(texts, letter, most) {
   const [found, taken] = [new Map(), new Set()];
   for (const text of new Set(texts)) {
     let name = plainName(text);
@@ -53,4 +54,11 @@ export function namesOfWishes(pairs, behind) {
     if (new Set(names).size === names.length) break;
   }
   return names;
+}
+
+/** Names for things: these words, with _ for a space, if all are names and no two the same; else a letter and their numbers. */
+export function wordsOrNumbers(letter, words) {
+  const found = words.map((it) => it.replaceAll(" ", "_"));
+  const areNames = found.every((it) => /^[!-~]{1,32}$/.test(it)) && new Set(found).size === found.length;
+  return areNames ? found : found.map((_, place) => letter + place);
 }
