@@ -134,6 +134,10 @@ if is_built "the programs of docs/BINDINGS.md" libmatbench.a && is_built "the pr
 fi
 try_hardened
 try_packages
+if command -v node >/dev/null; then
+    try "the rules of the page for rosters" python3 "$bindings/tests/roster_rules.py"
+    try "the rules of the page for networks and frames" python3 "$bindings/tests/page_rules.py"
+fi
 if command -v node >/dev/null; then try_javascript node; else cannot "the module for JavaScript in node" "there is no node"; fi
 [ -n "$chromium" ] || cannot "the page in Chromium" "there is no ${CHROMIUM:-chromium}"
 [ -n "$firefox" ] || cannot "the page in Firefox" "there is no ${FIREFOX:-firefox}"
