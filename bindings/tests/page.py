@@ -13,6 +13,7 @@ import time
 import unittest
 
 from opened_page import HERE, PEOPLE, TOP, Page, fragment_of, long_problem
+from page_network import Frame, Network  # noqa: F401 (their tests run here too)
 from page_posts import Posts  # noqa: F401 (its tests run here too)
 from page_roster import Roster  # noqa: F401 (its tests run here too)
 from page_typing import Typing  # noqa: F401 (its tests run here too)

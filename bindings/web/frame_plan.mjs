@@ -28,7 +28,7 @@ export class Frame {
     const { needed, rank, surplus, frame } = this.analysis;
     const missing = plural(needed - rank, "bar");
     const hinges = frame.members.some((it) => it.kind === "hinge") ? ` (a hinge counts as ${frame.sparsity.hinge})` : "";
-    const verdict = this.isRigid ? "It is rigid, in general position." : `It is not rigid: ${missing} ${needed - rank === 1 ? "is" : "are"} missing, each in the right place.`;
+    const verdict = this.isRigid ? "It is rigid, in general position." : `It is not rigid: ${missing} ${needed - rank === 1 ? "is" : "are"} missing.`;
     const redundant = surplus === 0 ? "No bar is redundant." : `${plural(surplus, "bar")} ${surplus === 1 ? "is" : "are"} redundant.`;
     const counted = `${needed} independent bars${hinges} are needed, and there are ${rank}.`;
     return `${verdict} ${counted} ${redundant} A certificate proves that so many are independent, and a count of parts that there are no more.`;

@@ -18,7 +18,7 @@ export function fillLinks(table, tree, turn) {
   const rows = request.links.map((it, place) => {
     const isIn = tree.built.has(place);
     const said = isIn ? "built" : "not built";
-    const cell = turnButton("", { ...it, place, isIn, title: `${it.name}: ${said}`, said }, turn);
+    const cell = turnButton(said, { ...it, place, isIn, title: `${it.name}: ${said}` }, turn);
     const cells = [...cellsOfLink(it, request).map((textContent) => made("td", { textContent })), cell];
     const why = made("td", { className: "reason", textContent: isIn ? "" : tree.whyNot(place) });
     return made("tr", {}, made("th", { scope: "row", textContent: it.name }), ...cells, why);

@@ -4,7 +4,8 @@ import { spelled } from "./tables.mjs";
 
 /** A button for `turn` that shows a text and says what it is, and whether it must be in the plan, or must not. */
 export function turnButton(text, { place, isIn, title, said, must, never }, turn) {
-  const button = made("button", { type: "button", title }, text, made("span", { className: "said", textContent: ` ${said}` }));
+  const button = made("button", { type: "button", title }, text);
+  if (said) button.append(made("span", { className: "said", textContent: ` ${said}` }));
   if (must || never) button.append(made("small", { textContent: must ? " must" : " never" }));
   button.dataset.place = place;
   button.addEventListener("click", () => turn(place));
