@@ -115,6 +115,7 @@ export class Sheet {
   }
 
   #takeExample({ cells, limits, choices }) {
+    this.#last = null;
     this.cells.text = cells;
     this.choices.values = choices;
     if (limits) this.#takeLimits(limits);
@@ -215,7 +216,7 @@ export class Sheet {
   #show(plan, said) {
     this.#plan = plan;
     this.at("told").textContent = plan.told;
-    this.at("changes").textContent = this.#last ? changesOf(this.#last, plan) : "";
+    this.at("changes").textContent = this.#last?.constructor === plan.constructor ? changesOf(this.#last, plan) : "";
     this.#last = plan;
     this.at("hint").hidden = !plan.canTurn;
     for (const part of ["second", "one-more"]) this.at(part).hidden = !plan.canTurn;
