@@ -30,3 +30,6 @@ pub mod PartsOfSets
 pub mod SearchEnds
 pub mod AddedElements
 pub mod UnionRuns
+pub mod FollowedRows
+pub mod UnionColumns
+pub mod ArcsOfParts

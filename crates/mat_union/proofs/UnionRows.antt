@@ -1,7 +1,7 @@
 -- The exchanges of an element at an independent set of the union, by one search for moves from its parts.
 use Rattle.mat_union.proofs.Common.{◌≡◌, ℕ, ◌<◌, Bool, true, false, not, ◌||◌, ◌&&◌, eqb, List, length, get_or, refl, sym, ap, ◌∙◌, arith, and_parts, false_from_ne_true, not-true, eqb-true, is_member, IsSet, IsSubset, intersection, with_one, family_union, IsReachedSet, filter_same_at}
-use Rattle.mat_union.proofs.Common.{is_member-with_one, IsRising-family_union, filter_whole, below_member, IsSet-with_one, IsSubset-refl, IsSubset-with_one, intersection-subset, length-with_one, Exchange, row_of, exchanged, row_outside, AreMatroids, AreParts, union_test, can_push, element_at}
-use Rattle.mat_union.proofs.Common.{exchanges_with, is_free, row_found, IsMoves, IsShortestMovePath, IsStuck, cut_bounds, parts_pass, parts_set, union_only, addable_takes_all, exchanges_reached, moves_keep, reach_inside, stuck_cut, Move, Moves, Path, Stuck}
+use Rattle.mat_union.proofs.Common.{is_member-with_one, IsRising-family_union, filter_whole, below_member, IsSet-with_one, IsSubset-refl, IsSubset-with_one, intersection-subset, length-with_one, Exchange, row_of, exchanged, row_outside, AreMatroids, AreParts, union_test, can_enter, can_push}
+use Rattle.mat_union.proofs.Common.{element_at, exchanges_with, is_free, row_found, IsMoves, IsShortestMovePath, IsStuck, stuck_from, cut_bounds, parts_pass, parts_set, union_only, addable_takes_all, below_start, exchanges_reached, moves_keep, reach_inside, stuck_cut, Move, Moves, Path, Stuck}
 
 module _ {n : ℕ} (tests : List (List ℕ → Bool)) (laws : AreMatroids n tests) (parts : List (List ℕ)) (are : AreParts tests parts)
     (x : ℕ) (small : x < n) (out : is_member x (family_union parts) ≡ false) where
@@ -61,6 +61,18 @@ module _ {n : ℕ} (tests : List (List ℕ → Bool)) (laws : AreMatroids n test
           closed = r.closed;
           walks = λ v h. (let w = r.walks v h in (w.0, record { arcs = w.1.arcs; long = w.1.long; below = w.1.below; first = sym (free_is (get_or w.0 0 0)) ∙ w.1.first; last = w.1.last; steps = w.1.steps }));
         }
+
+  -- where none of those that x reaches can be added to a part, x cannot be added
+  pub none_refuses : (reach : List ℕ) → IsReachedSet n (can_push (length parts) (exchanges_with tests parts)) (λ v. eqb v x) reach
+      → ((v : ℕ) → is_member v reach ≡ true → can_enter (length parts) (exchanges_with tests parts) v ≡ false) → union_test n tests larger ≡ false
+  none_refuses reach r none =
+      let starts = below_start laws are (is_free parts larger) (λ v h. below_member larger_set (and_parts (is_member v larger) _ h).0) in
+      stuck_refuses reach (stuck_from starts reach (record {
+        set = r.set;
+        starts = λ v l h. r.starts v l (sym (free_is v) ∙ h);
+        closed = r.closed;
+        walks = λ v h. (let w = r.walks v h in (w.0, record { arcs = w.1.arcs; long = w.1.long; below = w.1.below; first = free_is (get_or w.0 0 0) ∙ w.1.first; last = w.1.last; steps = w.1.steps }));
+      }) none)
 
   pub search_row : (moves : Moves) → IsMoves n (length parts) (exchanges_with tests parts) (is_free parts larger) moves → row_found held moves ≡ row_of (union_test n tests) held x
   search_row (Path moves) h = added_row (found_adds moves.items h) (record { addable = true; with = held }) refl refl

@@ -2,10 +2,8 @@
 -- take, the union can. A run that begins with some of what a run from nothing takes ends with the same set.
 use Rattle.mat_union.proofs.Common.{◌≡◌, ◌⊎◌, ℕ, ◌+◌, ◌<◌, Bool, true, false, not, ◌||◌, ◌&&◌, eqb, List, [], ◌∷◌, length, get_or, inl, inr, refl, sym, ap, ◌∙◌, arith, and_from, and_parts, both_ways, cases_Bool, eqb-true, false_from_ne_true, not-true, not_from_false, or_cases, or_parts}
 use Rattle.mat_union.proofs.Common.{family_union, is_member, IsRising, IsSubset, with_one, length-with_one, with_one-holds, family_union-from, is_member-with_one, IsRising-with_one, subsets_equal, with_one-IsSubset, IsSubset-refl, IsSubset-trans, IsSubset-with_one, grown_along, grown_by, IsMatroid}
-use Rattle.mat_union.proofs.Common.{IsMaximal, IsRunning, IsRunning-next, AreGrowing, nowhere, parts_pass, union_only, ArePlaced, union_laws, part_at, test_at, union_test, AreMatroids, AreParts}
-use Rattle.mat_sets.proofs.Changes.{with_one-both}
+use Rattle.mat_union.proofs.Common.{IsMaximal, IsRunning, IsRunning-next, AreGrowing, nowhere, parts_pass, union_only, ArePlaced, union_laws, part_at, test_at, union_test, AreMatroids, AreParts, with_one-both, full_in_larger, grow_to_size, rising}
 use Rattle.mat_laws.proofs.GreedyRunSets.{grown_by-passes, run_ends}
-use Rattle.mat_laws.proofs.Independent.{full_in_larger, grow_to_size, rising}
 use Rattle.mat_laws.proofs.Maximal.{IsMaximal-largest}
 use Rattle.mat_union.proofs.AddedElements.{one_move}
 use Rattle.mat_union.proofs.EmptyParts.{first_are, first_together}

@@ -13,3 +13,4 @@ pub mod UnionsOf
 pub mod UnionOfLaws
 pub mod FilledParts
 pub mod EndedSearches
+pub mod FollowedArcs

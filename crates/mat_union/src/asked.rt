@@ -1,10 +1,10 @@
 //! What is asked of each matroid of a union.
 ghost use Rattle.std.specs.Prelude.{◌≡◌, ◌<◌, ℕ, List, [], Bool, true, false, IfOk};
 ghost use Rattle.mat_sets.specs.Sets.{AllBelow, AreDistinct, is_member, union};
-ghost use Rattle.mat_laws.specs.{Exchanges.{row_of}, GreedyRuns.{grown_along}, Matroids.{IsMatroid, IsMaximal}};
+ghost use Rattle.mat_laws.specs.{Columns.{AreColumns}, Exchanges.{row_of}, GreedyRuns.{grown_along}, Matroids.{IsMatroid, IsMaximal}};
 
 use mat_laws::{Exchange, Matroid};
-use mat_sets::ElemSet;
+use mat_sets::{BitRows, ElemSet};
 use std::alloc::{AllocError, Global};
 
 /// What the searches for moves ask of a matroid, with the contracts of `Matroid`. A matroid's own methods call no function that is generic
@@ -92,6 +92,18 @@ pub(crate) trait Asked {
         requires below { x < ground_size self.now }
         requires outside { is_member x base.now ≡ false }
         ensures { IfOk result (λ e. e ≡ row_of (indep self.now) base.now x) };
+
+    /// For each member of an independent set of which something is kept, at its number, the elements outside it that can take its place.
+    fn columns_from(
+        &self,
+        alloc: Global,
+        base: &ElemSet,
+        kept: &Self::Kept,
+    ) -> Result<BitRows, AllocError>
+        requires sound { sound self.now }
+        requires base { indep self.now base.now ≡ true }
+        requires kept { keeps self.now base.now kept.now }
+        ensures { IfOk result (λ columns. AreColumns (ground_size self.now) (indep self.now) base.now columns) };
 }
 
 impl<M: Matroid> Asked for M {
@@ -150,5 +162,14 @@ impl<M: Matroid> Asked for M {
         x: u32,
     ) -> Result<Exchange, AllocError> {
         self.row(alloc, base, kept, x)
+    }
+
+    fn columns_from(
+        &self,
+        alloc: Global,
+        base: &ElemSet,
+        kept: &M::Kept,
+    ) -> Result<BitRows, AllocError> {
+        self.columns(alloc, base, kept)
     }
 }

@@ -87,7 +87,7 @@ fn row_at<M: Asked>(
 }
 
 /// Whether x can be added to a part, by what is kept of it: a member cannot.
-fn adds_at<M: Asked>(
+pub(crate) fn adds_at<M: Asked>(
     alloc: Global,
     m: &M,
     part: &ElemSet,

@@ -5,9 +5,11 @@ mod asked;
 mod best;
 mod empty;
 mod ended;
+mod exchange_arcs;
 mod exchange_list;
 mod filling;
 mod growth;
+mod kept_columns;
 mod kept_parts;
 pub mod laws;
 mod move_graph;
@@ -25,6 +27,7 @@ pub use moved_sets::members_of;
 pub use union_of::UnionOf;
 
 // The search for moves over rows that are all at hand, and a part after moves.
+pub use exchange_arcs::{ExchangeArcs, takes_each_place};
 pub use exchange_list::ExchangeList;
 pub use moved_sets::moved_part;
 pub use moves::{Move, Moves};

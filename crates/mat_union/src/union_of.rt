@@ -7,10 +7,11 @@ ghost use Rattle.mat_union.specs.{
   Unions.{union_test},
 };
 
+use crate::kept_columns::columns_of_parts;
 use crate::kept_parts::{KeptParts, parts_of, row_of_parts};
 use crate::running::run_along;
 use mat_laws::{Exchange, Matroid};
-use mat_sets::ElemSet;
+use mat_sets::{BitRows, ElemSet};
 use std::alloc::{AllocError, Global};
 
 /// The union of matroids on the same elements: a set is independent where it is the union of pairwise disjoint sets, one for each matroid
@@ -92,5 +93,17 @@ impl<M: Matroid> Matroid for UnionOf<M> {
     ) -> Result<Exchange, AllocError> {
         let n = self.size();
         row_of_parts(alloc, self.parts.as_slice(), n, base, kept, x)
+    }
+
+    /// All columns at once: each matroid is asked for the columns at its part, and what is reached from one part to another is told for all
+    /// elements together. The only error is want of memory.
+    fn columns(
+        &self,
+        alloc: Global,
+        base: &ElemSet,
+        kept: &KeptParts<M::Kept>,
+    ) -> Result<BitRows, AllocError> {
+        let n = self.size();
+        columns_of_parts(alloc, self.parts.as_slice(), n, base, kept)
     }
 }
