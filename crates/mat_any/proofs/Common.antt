@@ -1,7 +1,7 @@
 -- The names that the proofs of this crate take from elsewhere and from its specs, passed on from one place. Declares nothing.
-pub use Rattle.std.proofs.Common.{All, Bool, Global, IfSome, List, Option, Vec, [], ap, arith, eqb-true, false, get_or, inl, inr, length, length-append, lt-ltb, ltb, ltb-true, map, not, refl, reverse, rules, subst, suc, sym, take, take_all, true, zero, ℕ, ◌&&◌, ◌++◌, ◌+◌, ◌<◌, ◌^◌, ◌∙◌, ◌∷◌, ◌≡◌}
-pub use Rattle.std.proofs.Common.{◌≤◌}
-pub use Rattle.std.proofs.lemmas.Bool.{and_from, and_parts, both_ways, cases_Bool, false≢true, or_right}
+pub use Rattle.std.proofs.Common.{All, Bool, Global, IfSome, List, Option, Vec, [], ap, arith, eqb-true, false, get_or, inl, inr, length, length-append, lt-ltb, ltb, ltb-true, map, not, refl, reverse, rules, subst, suc, sym, take, take_all, true, zero, ℕ, ◌&&◌, ◌++◌, ◌+◌, ◌<◌, ◌^◌, ◌||◌, ◌∙◌, ◌∷◌}
+pub use Rattle.std.proofs.Common.{◌≡◌, ◌≤◌}
+pub use Rattle.std.proofs.lemmas.Bool.{and_from, and_parts, both_ways, cases_Bool, false_from_ne_true, false≢true, or_right}
 pub use Rattle.std.proofs.lemmas.List.{get_or-map, length-map, nil_from_length}
 pub use Rattle.std.proofs.lemmas.List.Elements.{All-append, All-cons, All-head, All-nil, All-tail}
 pub use Rattle.std.proofs.lemmas.Result.{IfOk-weaker, on_ok_weaker}
@@ -22,13 +22,15 @@ pub use Rattle.mat_minors.specs.Minors.{is_contracted, is_dual, is_restricted, i
 pub use Rattle.mat_minors.proofs.DualExchanges.{kept_is, kept_row_is, kept_row_told}
 pub use Rattle.mat_minors.proofs.GreedyReversed.{dual_by_run, dual_greedy_of}
 pub use Rattle.mat_minors.proofs.MinorRows.{contracted_apart, contracted_row, contracted_row_outside, outside_joined, restricted_row, restricted_row_outside, truncated_row}
+pub use Rattle.mat_union.specs.FollowedArcs.{AreArcs, AreReached}
 pub use Rattle.mat_union.specs.GrownParts.{AreGrowing, AreKept, AreKeptParts}
 pub use Rattle.mat_union.specs.MoveSearches.{IsReaching, questions_left}
 pub use Rattle.mat_union.specs.Moves.{all_moved, exchanges_with}
-pub use Rattle.mat_union.specs.PartListLaws.{parts_pass}
-pub use Rattle.mat_union.specs.Unions.{AreMatroids, AreParts, part_at, union_test}
+pub use Rattle.mat_union.specs.PartListLaws.{parts_pass, parts_set}
+pub use Rattle.mat_union.specs.Unions.{AreMatroids, AreParts, part_at, test_at, union_test}
 unfoldable pub use Rattle.mat_union.specs.Unions.{divides}
 pub use Rattle.mat_union.specs.UnionsOf.{AreJoined, common_size}
+pub use Rattle.mat_union.proofs.ArcsOfParts.{adds_below, adds_takes, arcs_more, entered_before, entered_end, entered_more, entered_none, entered_one, unentered_one}
 pub use Rattle.mat_union.proofs.MadeMoves.{AreMadeSo, anew_at, anew_end, anew_none, made_end, made_none, made_part, made_same, made_set, part_stays}
 pub use Rattle.mat_union.proofs.PartsOfSets.{AreTakenSo, rest_below, taken_are, taken_inside, taken_more, taken_none}
 pub use Rattle.mat_union.proofs.SoundMatroids.{AreKeptAnew, AreKeptSo, anew_same, anew_set, kept_at, kept_more, part_passes, parts_count, sound_at, test_is}

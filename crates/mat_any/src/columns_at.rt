@@ -1,10 +1,18 @@
 //! The exchanges at an independent set of a matroid of any kind column by column, by recursion on the matroids within it.
-ghost use Rattle.std.specs.Prelude.{◌≡◌, ◌&&◌, ℕ, true, not, nat_lt, IfOk};
-ghost use Rattle.mat_sets.specs.Sets.{IsSet, is_member, union};
-ghost use Rattle.mat_laws.specs.{Columns.{AreColumns}, Matroids.{IsMaximal}};
+ghost use Rattle.std.specs.Prelude.{◌≡◌, ◌<◌, ◌||◌, ◌&&◌, ◌==◌, ℕ, true, not, nat_lt, length, map, IfOk, OnOk};
+ghost use Rattle.mat_sets.specs.{Families.{family_union}, Sets.{IsSet, is_member, union}};
+ghost use Rattle.mat_laws.specs.{Columns.{AreColumns}, Exchanges.{row_of}, Matroids.{IsMaximal}};
 ghost use Rattle.mat_minors.specs.Minors.{is_contracted, is_restricted, is_truncated};
+ghost use Rattle.mat_union.specs.{
+  FollowedArcs.{AreArcs},
+  GrownParts.{AreKept},
+  Moves.{exchanges_with},
+  Unions.{AreParts},
+  UnionsOf.{AreJoined},
+};
 ghost use Rattle.mat_any.specs.{
   AnyKeeps.{KeepsAny},
+  Joined.{elements_in, size_in, test_in, union_in, IsSoundOne, KeepsOne},
   Trees.{element_count, is_independent, IsSound},
   Views.{tree_of},
 };
@@ -12,14 +20,16 @@ ghost use Rattle.mat_any.specs.{
 use crate::any::AnyMatroid;
 use crate::any_kept::AnyKept;
 use crate::part::Part;
-use crate::sizes::size_of;
+use crate::rows::adds_at;
+use crate::sizes::{common_size_of, size_of};
 use mat_laws::Matroid;
-use mat_sets::{BitRows, BitSet, ElemSet};
+use mat_sets::{BitRows, BitSet, ElemSet, SetList};
+use mat_union::{ExchangeArcs, takes_each_place};
 use std::alloc::{AllocError, Global};
 
 /// For each member of an independent set, at its number, the elements outside it that can take its place, by what is kept of the set: a graphic
-/// matroid makes no rows for them, a truncation, a restriction or a contraction asks the matroid within it once, and each other kind makes a row
-/// for each element outside. The only error is want of memory.
+/// matroid makes no rows for them, a truncation, a restriction or a contraction asks the matroid within it once, a union asks each of its matroids
+/// once, and each other kind makes a row for each element outside. The only error is want of memory.
 #[cycle(turning)]
 pub(crate) fn columns(
     alloc: Global,
@@ -54,6 +64,9 @@ pub(crate) fn columns(
                 inner: within,
             },
         ) => contraction_columns(alloc, inner, away, base, chosen, joined, within),
+        (AnyMatroid::Union { parts: matroids }, AnyKept::Union { parts, kept }) => {
+            union_columns(alloc, matroids, base, parts, kept)
+        }
         _ => {
             let part = Part { matroid };
             part.columns(alloc, base, kept)
@@ -136,4 +149,123 @@ fn contraction_columns(
     all.remove_from_each(&gone);
     all.empty_each(alloc, chosen.as_slice(), 0)?;
     Ok(all)
+}
+
+// The columns in a union: each matroid is asked for those at its part, and what is reached along the arcs of all parts is told for all elements
+// at once.
+#[cycle(turning)]
+fn union_columns(
+    alloc: Global,
+    matroids: &[AnyMatroid],
+    base: &ElemSet,
+    parts: &SetList,
+    kept: &[AnyKept],
+) -> Result<BitRows, AllocError>
+    requires joined { AreJoined elements_in IsSoundOne matroids.now }
+    requires parts { AreParts (map test_in matroids.now) parts.now }
+    requires together { family_union parts.now ≡ base.now }
+    requires kept { AreKept KeepsOne matroids.now parts.now kept.now }
+    ensures { IfOk result (λ columns. AreColumns (size_in matroids.now) (union_in matroids.now) base.now columns) }
+{
+    let n = common_size_of(matroids);
+    let mut arcs = arcs_of(alloc, matroids, n, parts, kept)?;
+    arcs.follow(alloc, base.as_slice())?;
+    arcs.columns(alloc, base)
+}
+
+// The arcs of all parts, by their columns, and the elements that can be added to some part.
+#[cycle(turning)]
+fn arcs_of(
+    alloc: Global,
+    matroids: &[AnyMatroid],
+    n: u32,
+    parts: &SetList,
+    kept: &[AnyKept],
+) -> Result<ExchangeArcs, AllocError>
+    requires joined { AreJoined elements_in IsSoundOne matroids.now }
+    requires size { n ≡ size_in matroids.now }
+    requires parts { AreParts (map test_in matroids.now) parts.now }
+    requires kept { AreKept KeepsOne matroids.now parts.now kept.now }
+    ensures { IfOk result (λ arcs. AreArcs n (length parts.now) (exchanges_with (map test_in matroids.now) parts.now) arcs) }
+{
+    let mut arcs = ExchangeArcs::new(alloc, n)?;
+    for i in 0..matroids.len() {
+        let matroid = &matroids[i];
+        let part = parts.get(i);
+        let own = part_columns(alloc, matroid, part, &kept[i])?;
+        arcs.add(&own)?;
+        let entering = &mut arcs.entering;
+        enter_each(alloc, matroid, part, &kept[i], &own, entering)?;
+    }
+    Ok(arcs)
+}
+
+// The columns at a part: an empty one has empty columns.
+#[cycle(turning)]
+fn part_columns(
+    alloc: Global,
+    matroid: &AnyMatroid,
+    part: &ElemSet,
+    kept: &AnyKept,
+) -> Result<BitRows, AllocError>
+    requires sound { IsSound (tree_of matroid.now) }
+    requires base { is_independent (tree_of matroid.now) part.now ≡ true }
+    requires kept { KeepsAny (tree_of matroid.now) part.now kept.now }
+    ensures { IfOk result (λ columns. AreColumns (element_count (tree_of matroid.now)) (is_independent (tree_of matroid.now)) part.now columns) }
+{
+    if part.len() == 0 {
+        return BitRows::with_rows(alloc, size_of(matroid), 0);
+    }
+    columns(alloc, matroid, part, kept)
+}
+
+// Puts x in if it can be added to a part: then it takes the place of each member, and only then is this asked.
+fn enter(
+    alloc: Global,
+    matroid: &AnyMatroid,
+    part: &ElemSet,
+    kept: &AnyKept,
+    columns: &BitRows,
+    entering: &mut BitSet,
+    x: u32,
+) -> Result<(), AllocError>
+    requires sound { IsSound (tree_of matroid.now) }
+    requires base { is_independent (tree_of matroid.now) part.now ≡ true }
+    requires kept { KeepsAny (tree_of matroid.now) part.now kept.now }
+    requires columns { AreColumns (element_count (tree_of matroid.now)) (is_independent (tree_of matroid.now)) part.now columns.now }
+    requires below { x < element_count (tree_of matroid.now) }
+    ensures { OnOk result ((y : ℕ) → is_member y entering.new
+        ≡ (is_member y entering.old || (y == x && (row_of (is_independent (tree_of matroid.now)) part.now y).addable))) }
+{
+    matroid.lawful();
+    if entering.contains(x) || !takes_each_place(columns, part, x) {
+        return Ok(());
+    }
+    if adds_at(alloc, matroid, part, kept, x)? {
+        entering.insert(x)?;
+    }
+    Ok(())
+}
+
+// Puts in the elements that can be added to a part.
+fn enter_each(
+    alloc: Global,
+    matroid: &AnyMatroid,
+    part: &ElemSet,
+    kept: &AnyKept,
+    columns: &BitRows,
+    entering: &mut BitSet,
+) -> Result<(), AllocError>
+    requires sound { IsSound (tree_of matroid.now) }
+    requires base { is_independent (tree_of matroid.now) part.now ≡ true }
+    requires kept { KeepsAny (tree_of matroid.now) part.now kept.now }
+    requires columns { AreColumns (element_count (tree_of matroid.now)) (is_independent (tree_of matroid.now)) part.now columns.now }
+    ensures { OnOk result ((x : ℕ) → is_member x entering.new
+        ≡ (is_member x entering.old || (row_of (is_independent (tree_of matroid.now)) part.now x).addable)) }
+{
+    matroid.lawful();
+    for x in 0..size_of(matroid) {
+        enter(alloc, matroid, part, kept, columns, entering, x)?;
+    }
+    Ok(())
 }

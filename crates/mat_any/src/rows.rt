@@ -573,8 +573,8 @@ fn row_at(
     row(alloc, matroid, part, kept, x)
 }
 
-// Whether x can be added to a part, by what is kept of it: a member cannot.
-fn adds_at(
+/// Whether x can be added to a part, by what is kept of it: a member cannot.
+pub(crate) fn adds_at(
     alloc: Global,
     matroid: &AnyMatroid,
     part: &ElemSet,
