@@ -22,3 +22,5 @@ pub mod RightLadderReasons
 pub mod RightSetReasons
 pub mod RightGraphReasons
 pub mod RightReasons
+pub mod PutFacts
+pub mod RangedAnswers

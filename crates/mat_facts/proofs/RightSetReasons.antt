@@ -174,7 +174,7 @@ module _ (w : List Weight) (matroid : Tree) (n : ℕ) (valid : IsValid (list w (
       each zero l = base
       each (suc i) l = absurd (omega arith)
 
-  some_base : (bases : List (List ℕ)) (cut : List ℕ) → IsRightPacking (length w) p bases cut → 0 < length bases
+  pub some_base : (bases : List (List ℕ)) (cut : List ℕ) → IsRightPacking (length w) p bases cut → 0 < length bases
   some_base bases cut is =
       let found = maximal_in lp (all_below (length w)) (IsRising-all_below (length w)) in
       let most = packing_is_most lp bases cut is (found.0 ∷ []) (one_base found.0 (IsBase-maximal (length w) p found.0 found.1)) in

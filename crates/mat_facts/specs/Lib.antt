@@ -6,3 +6,5 @@ pub mod Answers
 pub mod Holding
 pub mod Sufficing
 pub mod Reasons
+pub mod Shares
+pub mod Views

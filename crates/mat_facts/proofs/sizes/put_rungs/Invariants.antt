@@ -1,0 +1,8 @@
+-- The facts of the sizes so far stand behind those that were there.
+use Rattle.mat_facts.proofs.Common.{◌≡◌, ◌++◌, rung_facts, sizes_facts}
+use Rattle.std.proofs.Common.{take}
+use Rattle.mat_facts.specs.Views.{facts_of, is_told}
+use Rattle.mat_facts.proofs.sizes.put_rungs.Given as goal
+
+abbrev pub invariant-loop-k : goal.invariant-loop-k
+invariant-loop-k l = facts_of l.facts.items ≡ facts_of l.initial.facts.items ++ sizes_facts (is_told l.told) rung_facts 0 (take l.k l.rungs)
