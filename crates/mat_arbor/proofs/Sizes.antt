@@ -87,30 +87,39 @@ split_bound-least n some =
 
 -- ---- the held weight of an arc from the weights around its head
 
+-- the weight around the head of an arc, its cost and what is left of it are small, and give the held weight
+pub record AreArcWeights (around cost left both : ℤ) : Type 0 where
+  pub around_low : neg_ℤ (pos (10 ^ 36)) ≤ℤ around
+  pub around_high : around ≤ℤ pos (10 ^ 36)
+  pub left_low : neg_ℤ (pos (10 ^ 36)) ≤ℤ left
+  pub left_high : left ≤ℤ pos (10 ^ 36)
+  pub cost_low : pos 0 ≤ℤ cost
+  pub cost_high : cost ≤ℤ pos (10 ^ 36)
+  pub enough : cost ≤ℤ (around +ℤ left)
+  pub held : around +ℤ left -ℤ cost ≡ both
+
 module _ (vertices : ℕ) (ends : ℕ → ℕ × ℕ) (cuts : List CutWeight) (few : length cuts ≤ cut_bound)
     (within : AllByRecursion (IsCutWithin vertices (10 ^ 31)) cuts) (low : AllByRecursion (λ c. pos 0 ≤ℤ c.weight) cuts)
     (a : ℕ) (around cost left : ℤ) (around_is : around ≡ weight_around cuts (ends a).1) (range : IsWideCost cost)
     (left_is : cost ≡ left +ℤ weight_on ends cuts a) where
-  pub held_parts : around +ℤ left -ℤ cost ≡ held_weight ends cuts a
-  held_parts = omega (arith, ints, around_head ends cuts a)
-
-  pub parts_low : cost ≤ℤ (around +ℤ left)
-  parts_low = omega (arith, ints, around_head ends cuts a, held_low vertices 0 ends cuts a low)
-
-  pub around_small : IsWithin (10 ^ 36) around
-  around_small =
+  pub arc_weights : AreArcWeights around cost left (held_weight ends cuts a)
+  arc_weights =
       let w = around_within vertices (10 ^ 31) cuts (ends a).1 within in
       let w_low = w.0 in let w_high = w.1 in
-      (omega (arith, ints), omega (arith, ints))
-
-  pub left_small : IsWithin (10 ^ 36) left
-  left_small =
-      let w = around_within vertices (10 ^ 31) cuts (ends a).1 within in
-      let w_high = w.1 in
-      let most = range.1 in let least = range.0 in
+      let cost_low = range.0 in let cost_high = range.1 in
       let on = on_low vertices 0 ends cuts a low in
       let held = held_low vertices 0 ends cuts a low in
-      (omega (arith, ints, around_head ends cuts a), omega (arith, ints))
+      let head = around_head ends cuts a in
+      record {
+        around_low = omega (arith, ints);
+        around_high = omega (arith, ints);
+        left_low = omega (arith, ints);
+        left_high = omega (arith, ints);
+        cost_low = cost_low;
+        cost_high = omega (arith, ints);
+        enough = omega (arith, ints);
+        held = omega (arith, ints);
+      }
 
 -- ---- one arc more
 
