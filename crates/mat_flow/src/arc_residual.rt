@@ -68,6 +68,7 @@ impl Relation for ArcResidual<'_> {
         }
     }
 
+    #[tactic(auto, using(crate::proofs::ArcFlows::next_there))]
     fn next_arc(&self, a: u32, among: &BitSet, from: u32) -> Option<u32> {
         match self.before[a as usize] {
             Some(u) => {

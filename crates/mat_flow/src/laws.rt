@@ -8,6 +8,7 @@ ghost use Rattle.mat_flow.specs.{
 
 /// Where paths from sources to targets share no vertex with each other, there are disjoint paths, one more than these, to all their ends
 /// and to one further target; or some separator has as many vertices as there are paths (Schrijver, chapter 9; Diestel, chapter 3).
+#[tactic(auto, using(crate::proofs::PathLaws::one_path_more))]
 pub fn one_path_more()
     ensures { (arcs : List (ℕ × ℕ)) (sources targets : List ℕ) (paths : List (List ℕ))
         → ArePathsApart arcs sources targets paths
@@ -29,6 +30,7 @@ pub fn disjoint_paths_are_apart()
 
 /// Some disjoint paths are as many as some separator has vertices: the largest number of disjoint paths is the least size
 /// of a separator (Menger's theorem; Schrijver, chapter 9).
+#[tactic(auto, using(crate::proofs::PathLaws::menger))]
 pub fn menger()
     ensures { (arcs : List (ℕ × ℕ)) (sources targets : List ℕ)
         → (paths : List (List ℕ)) × (separator : List ℕ) × IsLinking arcs sources targets paths separator }
@@ -36,6 +38,7 @@ pub fn menger()
 
 /// Where so many paths over live arcs share no arc, each vertex set with their end and without their start is entered by as many live
 /// arcs: so there are not both such paths and such a cut.
+#[tactic(auto, using(crate::proofs::ArcPathLaws::paths_enter, crate::proofs::ArcPathLaws::paths_have_no_cut))]
 pub fn arc_paths_enter()
     ensures enter { (ends : ℕ → ℕ × ℕ) (live : List ℕ) (from to want : ℕ) (paths : List (List ℕ)) (cut : List ℕ)
         → IsRising live → AreArcPaths ends live from to want paths

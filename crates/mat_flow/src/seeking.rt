@@ -166,6 +166,7 @@ fn trace_back(alloc: Global, before: &[u32], last: u32) -> Result<Vec<u32>, Allo
 }
 
 // Puts these vertices back among the live ones.
+#[tactic(auto, using(crate::proofs::FirstGoals::put_more))]
 fn put_back(live: &mut BitSet, found: &[u32]) -> Result<(), AllocError>
     ensures { OnOk result ((v : ℕ) → is_member v live.new ≡ (is_member v live.old || is_member v found.now)) }
 {
