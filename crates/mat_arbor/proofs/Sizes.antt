@@ -1,7 +1,7 @@
 -- How large the numbers are: those of the costs, of the listed sets, of the held weights and of the two halves.
 -- Idea: all listed weights together are the cost of the tree, which has at most as many arcs as there are, and a main is a number over the unit.
 use Rattle.mat_arbor.proofs.Common.{◌≡◌, ℕ, ◌+◌, ◌*◌, ◌/◌, ◌^◌, ◌<◌, ◌≤◌, Bool, true, false, List, [], ◌∷◌, ◌++◌, length, length-append, get_or, ap, ◌∙◌, arith, below_more, ℤ, pos, neg_ℤ, ◌+ℤ◌, ◌-ℤ◌, ◌≤ℤ◌, ◌<ℤ◌, ints, get_or_append_left, get_or_push, div_below, mul-le, enters, largest_weight}
-use Rattle.mat_arbor.proofs.Common.{IsWithin, IsWeightWithin, Weight, IsWideCost, all_weight, weight_on, weight_where, IsWeightedCut, CutWeight, split_bound, raised_value, tie_gap, weight_of, held_weight, holds, weight_around, AreHeldWeights, IsCutWithin}
+use Rattle.mat_arbor.proofs.Common.{IsWeightWithin, Weight, IsWideCost, all_weight, weight_on, weight_where, IsWeightedCut, CutWeight, split_bound, raised_value, tie_gap, weight_of, held_weight, holds, weight_around, AreHeldWeights, IsCutWithin}
 use Rattle.std.proofs.Math.Nat.{div-le_self, div-mul-le_self}
 use Rattle.std.specs.List.{AllByRecursion}
 use Rattle.mat_cuts.specs.Limits.{cut_bound}
