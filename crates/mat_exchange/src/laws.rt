@@ -14,6 +14,7 @@ ghost use Rattle.mat_exchange.specs.{Changes.{IsChange}, Growing.{NoExchangeGain
 
 /// Exchanging along a tight path with fewest vertices gives a set of one element more that is heaviest of its size in both matroids
 /// under the same weights (Frank 1981).
+#[tactic(auto, using(crate::proofs::TightPathSteps::exchange_along_tight_path))]
 pub fn exchange_along_tight_path()
     ensures { (n : ℕ) (p q : List ℕ → Bool) → IsMatroid n p → IsMatroid n q → (w1 w2 : ℕ → Weight) (I path : List ℕ)
         → IsHeaviest p w1 I → IsHeaviest q w2 I → IsTightPath n (exchanges_at p I) (exchanges_at q I) w1 w2 path

@@ -68,6 +68,7 @@ impl RowTable {
     }
 
     /// Whether x can be added. It takes constant time and no memory.
+    #[tactic(auto, using(crate::proofs::RowTables::addable_tells))]
     pub fn addable(&self, x: u32) -> bool
         requires { x < length self.now }
         ensures { result ≡ (exchanges_in self.now).adds x }
@@ -97,6 +98,7 @@ impl RowTable {
     }
 
     /// The members that what can be added can be exchanged for.
+    #[tactic(auto, using(crate::proofs::RowTables::addable_tells, crate::proofs::RowTables::base_tells))]
     pub(crate) fn base(&self) -> &BitSet
         ensures { (y x : ℕ) → (exchanges_in self.now).adds x ≡ true → is_member y result.now ≡ (exchanges_in self.now).trades y x }
     {

@@ -109,6 +109,7 @@ fn exchange_slack(
 }
 
 /// The numbers below n that are not in a set, as bits.
+#[tactic(auto, using(crate::proofs::SlackParts::rest_members))]
 fn bits_of_others(alloc: Global, n: u32, set: &ElemSet) -> Result<BitSet, AllocError>
     ensures { IfOk result (λ bits. (x : ℕ) → is_member x bits ≡ (nat_lt x n && not (is_member x set.now))) }
 {
