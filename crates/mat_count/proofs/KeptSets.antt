@@ -1,6 +1,6 @@
 -- What is kept of the full sets is collected set by set, and the smallest of some of them is looked for place by place.
-use Rattle.mat_count.proofs.Common.{◌≡◌, ℕ, ◌+◌, ◌<◌, true, false, ◌||◌, eqb, List, [], ◌∷◌, ◌++◌, length, get_or, take, length-append, Option, Some, None, inl, inr, refl, sym, ap, ◌∙◌, arith, ⊤, MatchOption, cases_lt, both_ways, or_cases, eqb-true, eq-eqb, ltb-true, ltb-false, le-ltb, or_right}
-use Rattle.mat_count.proofs.Common.{get_or_append_left, get_or_push, is_member, is_member-take_more, AreFullSets, IsSmallest, kept_at, has_fewer, where_full, CountsMembers, FullSets}
+use Rattle.mat_count.proofs.Common.{◌≡◌, ℕ, ◌+◌, ◌<◌, true, false, ◌||◌, eqb, List, length, get_or, take, Option, Some, None, inl, inr, refl, sym, ap, ◌∙◌, arith, ⊤, MatchOption, both_ways, or_cases, eqb-true, eq-eqb, ltb-true, ltb-false, le-ltb, or_right}
+use Rattle.mat_count.proofs.Common.{is_member, is_member-take_more, IsSmallest, kept_at, has_fewer, where_full}
 
 -- ---- set by set
 
@@ -8,28 +8,6 @@ use Rattle.mat_count.proofs.Common.{get_or_append_left, get_or_push, is_member, 
 pub record AreKept (caps numbers : List ℕ) (i : ℕ) (sizes : List (Option ℕ)) : Type 0 where
   pub long : length sizes ≡ i
   pub at : (k : ℕ) → k < i → get_or sizes k None ≡ where_full (get_or caps k 0) (get_or numbers k 0)
-
-pub AreKept-more : (caps numbers : List ℕ) (i : ℕ) (sizes : List (Option ℕ)) (size : Option ℕ) (number : ℕ) → number ≡ get_or numbers i 0
-    → size ≡ where_full (get_or caps i 0) number → AreKept caps numbers i sizes → AreKept caps numbers (i + 1) (sizes ++ size ∷ [])
-AreKept-more caps numbers i sizes size number read told kept = record {
-  long = let long = kept.long in omega (arith, length-append sizes (size ∷ []));
-  at = λ k l. let long = kept.long in elim (cases_lt k i) [
-    | inl before ↦ get_or_append_left sizes (size ∷ []) None k (omega arith) ∙ kept.at k before
-    | inr past ↦ (
-        let here : k ≡ i = omega arith in
-        get_or_push sizes size None k (omega arith) ∙ told ∙ ap (where_full (get_or caps i 0)) read
-        ∙ ap (λ j. where_full (get_or caps j 0) (get_or numbers j 0)) (sym here))
-  ];
-}
-
--- once all are kept
-pub AreFullSets-kept : (sets : List (List ℕ)) (caps base numbers : List ℕ) (i : ℕ) (kept : FullSets) → i ≡ length numbers → kept.base ≡ base
-    → AreKept caps numbers i kept.sizes.items → CountsMembers sets base numbers → AreFullSets sets caps base kept
-AreFullSets-kept sets caps base numbers i kept all marked sizes counts = record {
-  marked = marked;
-  long = sizes.long ∙ all ∙ counts.long;
-  at = λ k l. sizes.at k (let long = counts.long in omega arith) ∙ ap (where_full (get_or caps k 0)) (counts.at k l);
-}
 
 -- ---- place by place
 

@@ -1,29 +1,10 @@
 -- The tops of the buckets of a fringe: an offer raises one of them, one is sought again when a member leaves, and the heaviest of them is a heaviest
 -- member.
-use Rattle.mat_exchange.proofs.Common.{◌≡◌, ◌≢◌, ℕ, ◌+◌, ◌*◌, ◌/◌, ◌<◌, ◌≤◌, Bool, true, false, not, ◌&&◌, cond, eqb, List, [], length, set, replicate, Option, Some, None, IfSome, inl, inr, refl, sym, ap, ◌∙◌, subst, arith, cases_Bool, cases_eq, cases_lt, both_ways, and_parts, and_right, eq-eqb}
-use Rattle.mat_exchange.proofs.Common.{ne_eqb, false_from_ne_true, get_or-set_same, get_or-set_other, get_or-replicate, get_or_past, length-replicate, length-set, is_member, without_one, is_member-without_one, and_all, ◌≼◌, is_below, weight_at, Weight, at_most_same, at_most_trans, below_at_most}
+use Rattle.mat_exchange.proofs.Common.{◌≡◌, ◌≢◌, ℕ, ◌*◌, ◌/◌, ◌<◌, ◌≤◌, true, not, ◌&&◌, cond, eqb, List, length, set, Option, Some, None, IfSome, inl, inr, refl, sym, ap, ◌∙◌, subst, arith, cases_Bool, cases_eq, both_ways, and_parts, and_right, eq-eqb}
+use Rattle.mat_exchange.proofs.Common.{ne_eqb, false_from_ne_true, get_or-set_same, get_or-set_other, length-set, is_member, without_one, is_member-without_one, and_all, ◌≼◌, is_below, weight_at, Weight, at_most_same, at_most_trans, below_at_most}
 use Rattle.mat_exchange.proofs.Common.{not_below_gives, IsHeaviestOf, IsHeaviestOrNone, IsMet, IsOffered, heavier_of, IsHeaviestToOrNone, in_bucket, AreTops, top_at}
 use Rattle.mat_exchange.proofs.HeaviestMembers.{bucket_parts, bucket_from, heaviest_below, heaviest_to_all}
 use mathlib.Core.Path.{fun_ext}
-
--- ---- no members
-
-abbrev no_top : Option ℕ
-no_top = None
-
-none_at : (m at : ℕ) → top_at (replicate m None) at ≡ None
-none_at m at = elim (cases_lt at m) [
-  | inl l ↦ get_or-replicate m at None None l
-  | inr past ↦ (let e = length-replicate m no_top in get_or_past (replicate m None) at None (omega (arith, e)))
-]
-
-pub tops_of_none : {members : List ℕ} {gains : List Weight} {tops : List (Option ℕ)} (m : ℕ) → members ≡ [] → tops ≡ replicate m None
-    → length gains ≤ 64 * m → AreTops members gains tops
-tops_of_none {members} {gains} {tops} m empty made room = rw (empty, made) (record {
-  below = λ x k. absurd (both_ways _ refl k);
-  room = (let e = length-replicate m no_top in omega (arith, e, room));
-  each = λ at. subst (IsHeaviestOrNone (in_bucket [] at) (weight_at gains)) (sym (none_at m at)) (λ x. refl);
-})
 
 -- ---- one top is written
 

@@ -6,7 +6,6 @@ use Rattle.mat_exchange.proofs.Common.{at_most_same, weight_within_at, Exchange,
 use Rattle.mat_exchange.specs.Growing.IsEntry.{as_source, from_member, from_other}
 use Rattle.mat_exchange.proofs.HeaviestAddable.{addable_below}
 use Rattle.mat_exchange.proofs.Growing.{AreExchangesOn, IsGrowing, growing_start, others_below, root_below}
-use Rattle.mat_exchange.proofs.GrowthChanges.{entry_not_above}
 use Rattle.mat_exchange.proofs.GrowthEntries.{fringe_entered, fringe_start}
 use Rattle.mat_exchange.proofs.Fringes.{offered_same}
 use Rattle.mat_exchange.proofs.Raising.{lowered_zero, raised_zero}
@@ -131,15 +130,6 @@ module _ {n : ℕ} {I : List ℕ} {first second : List Exchange} {u1 u2 : List W
 
   pub gains_within : (x : ℕ) → is_member x F ≡ true → IsWeightWithin largest_number (weight_at g x)
   gains_within x m = IsWeightWithin-weaken _ _ _ (omega arith) (gain_small x m)
-
-  -- no gain is above what is left of the change so far
-  pub gains_late : (x : ℕ) → is_member x F ≡ true → (weight_at g x ⊕ total) ≼ zero_weight
-  gains_late x m = subst (λ (e : Weight). e ≼ zero_weight) (raised-member (weight_at g) F total x m)
-      (entry_not_above now.shifted.growing x
-      (raised (weight_at g) F total x) (fringe_below x m) (now.fringe.has x m))
-
-  pub total_fits : IsWeightWithin largest_number total
-  total_fits = IsWeightWithin-weaken _ _ _ (omega arith) (total_small now.shifted)
 
   pub top_within : IfSome top (IsWeightWithin largest_number)
   top_within = within_top top now.top_now
