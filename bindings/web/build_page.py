@@ -2,8 +2,8 @@
 examples of the repository TOP.
 
 OUT/web/ is the page as files, for any static server, and OUT/matbench.html the same as one file,
-which works from a folder too: its module and its data are compressed. The same files give the same
-bytes. OUT/matbench.wasm has to be there.
+which works from a folder too: its script and its module are compressed. The same files give the
+same bytes. OUT/matbench.wasm has to be there.
 """
 import base64
 import hashlib
@@ -26,30 +26,19 @@ SCRIPT = ("matbench.mjs", "run.mjs", "textbox.mjs", "link.mjs", "kept.mjs", "ans
           "sheet.mjs", "page.mjs")
 #: The files of the page.
 PAGE = ("index.html", "style.css", "parts.mjs", "matbench.d.mts", "worker.mjs", *SCRIPT)
-#: parts.mjs of the one file, and a function that takes what `packed` made.
+#: parts.mjs of the one file, which has the function `unpacked` of unpack.js.
 PARTS = """
-const textOf = (id) => document.getElementById(id).textContent;
-function unpacked(id) {
-  const bytes = Uint8Array.from(atob(textOf(id)), (it) => it.charCodeAt(0));
-  const stream = new DecompressionStream("deflate-raw");
-  return new Response(new Blob([bytes]).stream().pipeThrough(stream));
-}
-async function loadModule() {
+const WORKER = {worker};
+async function loadModule() {{
   return unpacked("module").arrayBuffer();
-}
+}}
 let workerAddress;
-function startWorker() {
-  workerAddress ??= URL.createObjectURL(new Blob([textOf("worker")], { type: "text/javascript" }));
+function startWorker() {{
+  workerAddress ??= URL.createObjectURL(new Blob([WORKER], {{ type: "text/javascript" }}));
   return new Worker(workerAddress);
-}
-if (!globalThis.DecompressionStream) {
-  document.getElementById("unable").textContent =
-    "This browser is too old: the page needs DecompressionStream, and 64-bit WebAssembly memory.";
-}
+}}
 """
-#: data.mjs of the one file.
-DATA = "const {{ {names} }} = await unpacked(\"data\").json();\n"
-POLICY = ("default-src 'none'; script-src '{script}' 'wasm-unsafe-eval'; style-src '{style}'; "
+POLICY = ("default-src 'none'; script-src {scripts} 'wasm-unsafe-eval'; style-src {style}; "
           "connect-src 'none'; worker-src blob:; "
           "img-src data:; base-uri 'none'; form-action 'none'")
 
@@ -237,7 +226,8 @@ def data(top):
     help_source = read(top, "crates", "mat_main", "src", "help.rt")
     known = commands(help_source, formats)
     return {"VERSION": version(help_source), "COMMANDS": known, "EXAMPLES": examples(top, known),
-            "LIMITS": limits(formats), "SHEETS": sheets(top), "FAULTS": faults(formats), "REASONS": reasons(formats)}
+            "LIMITS": limits(formats), "SHEETS": sheets(top), "FAULTS": faults(formats),
+            "REASONS": reasons(formats)}
 
 
 def data_module(parts):
@@ -262,41 +252,50 @@ def joined(texts):
     return "".join(parts)
 
 
+def stripped(script):
+    """A script without indents, and without the comments that begin a line."""
+    script = re.sub(r"^ *(?://.*|/\*\*(?:.|\n)*?\*/)\n", "", script, flags=re.M)
+    script = re.sub(r"^ +", "", script, flags=re.M)
+    assert all(line.replace('"`"', "").count("`") % 2 == 0 for line in script.splitlines()), \
+        "a template of several lines would lose its indents"
+    return script
+
+
 def source_of(text):
     """The word of a policy that allows this script or style."""
-    return "sha256-" + base64.b64encode(hashlib.sha256(text.encode()).digest()).decode()
+    return "'sha256-" + base64.b64encode(hashlib.sha256(text.encode()).digest()).decode() + "'"
 
 
 def packed(content):
-    """Bytes as a word that `unpacked` takes: compressed by zlib, in Base64."""
+    """Bytes as a word that `unpacked` takes: compressed by zlib, in base 85. No digit of it begins
+    a tag."""
     squeeze = zlib.compressobj(9, zlib.DEFLATED, -zlib.MAX_WBITS, zlib.DEF_MEM_LEVEL)
-    return base64.b64encode(squeeze.compress(content) + squeeze.flush()).decode()
+    word = base64.b85encode(squeeze.compress(content) + squeeze.flush()).decode()
+    return word.replace("<", ",")
 
 
-def block(name, text):
-    """A text that the script of the one file takes by its name."""
-    return f'<script type="text/plain" id="{name}">{text}</script>\n'
+def block(name, content):
+    """A word that the script of the one file takes by its name."""
+    return f'<script type="text/plain" id="{name}">{packed(content)}</script>\n'
 
 
 def one_file(out, parts):
     """The page as one file."""
     folder = os.path.join(out, "web")
-    script = "\n" + PARTS + DATA.format(names=", ".join(parts))
-    script += joined(read(folder, name) for name in SCRIPT)
-    style = "\n" + read(folder, "style.css")
-    worker = joined(read(folder, name) for name in ("matbench.mjs", "worker.mjs"))
+    worker = stripped(joined(read(folder, name) for name in ("matbench.mjs", "worker.mjs")))
+    script = PARTS.format(worker=json.dumps(worker))
+    script += "".join(f"const {name} = {json.dumps(part)};\n" for name, part in parts.items())
+    script += stripped(joined(read(folder, name) for name in SCRIPT))
+    first, style = "\n" + read(HERE, "unpack.js"), "\n" + read(folder, "style.css")
     with open(os.path.join(out, "matbench.wasm"), "rb") as file:
-        module = packed(file.read())
-    assert "</script" not in script + worker, "a script would end early"
+        blocks = block("script", script.encode()) + block("module", file.read())
     page = read(folder, "index.html")
-    policy = POLICY.format(script=source_of(script), style=source_of(style))
+    policy = POLICY.format(scripts=f"{source_of(first)} {source_of(script)}", style=source_of(style))
     page = re.sub(r'(http-equiv="Content-Security-Policy" content=)"[^"]*"',
                   lambda hit: f'{hit[1]}"{policy}"', page)
     page = page.replace('<link rel="stylesheet" href="style.css">', f"<style>{style}</style>")
     page = page.replace('<script type="module" src="page.mjs"></script>\n', "")
-    blocks = block("worker", worker) + block("data", packed(json.dumps(parts).encode()))
-    blocks += block("module", module)
-    return page.replace("</body>", f'{blocks}<script type="module">{script}</script>\n</body>')
+    return page.replace("</body>", f"{blocks}<script>{first}</script>\n</body>")
 
 
 def main():
