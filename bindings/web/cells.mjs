@@ -1,6 +1,6 @@
 // The cells of a sheet: a text of them, which is pasted, dropped, opened or typed, and a table of the same that can be typed into.
 import { Grid } from "./grid.mjs";
-import { cellsAsText, MOST_TABLE_BYTES, TableFault, tableOf, textOfTable } from "./tables.mjs";
+import { cellsAsText, MOST_TABLE_BYTES, orTell, TableFault, tableOf, textOfTable } from "./tables.mjs";
 import { TextBox } from "./textbox.mjs";
 
 /** Characters of a text of which more would hold up the browser. */
@@ -12,17 +12,6 @@ export async function textOfFile(file, tell = () => {}) {
   const { text, note } = textOfTable(new Uint8Array(await file.arrayBuffer()));
   tell(note);
   return text;
-}
-
-/** What a function makes, or null where a table has a fault, which is told. */
-export function unlessFaulty(make, tell) {
-  try {
-    return make();
-  } catch (error) {
-    if (!(error instanceof TableFault)) throw error;
-    tell(error);
-    return null;
-  }
 }
 
 export class Cells {
@@ -107,8 +96,8 @@ export class Cells {
     const tell = ({ line, message }) => this.box.showFault(line, `${line ? `Line ${line}: ` : ""}${message}`);
     [this.#table, this.read] = [null, null];
     if (!this.text.trim()) return;
-    this.#table = unlessFaulty(() => tableOf(this.text), tell);
-    this.read = this.#table && unlessFaulty(() => this.readTable(this.#table), tell);
+    this.#table = orTell(() => tableOf(this.text), tell);
+    this.read = this.#table && orTell(() => this.readTable(this.#table), tell);
   }
 
   /** Marks the cells that are not understood. */

@@ -1,6 +1,6 @@
 // What a network is asked for, read from a table of links and from limits of owners. Names of links and places, and costs, are taken by the rules of
 // the Python package (matbench/links.py).
-import { holdToColumns, numbersOf, saysYes, TableFault, UNIT, wholeOf } from "./tables.mjs";
+import { holdToColumns, numbersOf, orTell, saysYes, TableFault, UNIT, wholeOf } from "./tables.mjs";
 
 /** The columns of links: those that are needed, and those that may be there. */
 const LINK_COLUMNS = [["link", "from", "to"], ["cost", "gain", "owner", "colour", "must", "never"]];
@@ -18,17 +18,6 @@ function costOf(row) {
   const cost = wholeOf(row, "cost", MOST_COST);
   if (cost === null) throw row.fault("there is no cost", "cost");
   return BigInt(cost) * UNIT;
-}
-
-/** What a function makes of a row, or null where it has a fault, which is told. */
-function orTell(make, tell) {
-  try {
-    return make();
-  } catch (error) {
-    if (!(error instanceof TableFault)) throw error;
-    tell(error);
-    return null;
-  }
 }
 
 function tellFaultyLinks({ rows }, groupedBy, tell) {

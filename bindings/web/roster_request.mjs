@@ -1,6 +1,6 @@
 // What a roster, or a plan of who takes which post, is asked for, read from a table of wishes and from limits, by the rules of the Python package
 // (matbench/roster/reading.py). For posts applicants are the people, posts the shifts, and offers the wishes.
-import { holdToColumns, inOrder, numbersOf, saysYes, TableFault, wholeOf } from "./tables.mjs";
+import { holdToColumns, inOrder, numbersOf, orTell, saysYes, TableFault, wholeOf } from "./tables.mjs";
 
 /** What the parts of a roster are called, and so its columns, and the further columns that it may have. */
 export const ROSTER_WORDS = {
@@ -50,17 +50,6 @@ function tellFaultyWishes({ heads, rows }, words, tell) {
     const twice = () => `this ${words.wish} of ${row.of(words.person)} stands twice, first in line ${seen.get(key).line}`;
     if (seen.has(key)) tell(row.fault(twice(), words.shift));
     else seen.set(key, row);
-  }
-}
-
-/** What a function makes of a row, or null where it has a fault, which is told. */
-function orTell(make, tell) {
-  try {
-    return make();
-  } catch (error) {
-    if (!(error instanceof TableFault)) throw error;
-    tell(error);
-    return null;
   }
 }
 

@@ -1,11 +1,11 @@
 // A sheet of the page: cells from a spreadsheet, limits as a form, and a plan as a table. What the sheet is for, its kind says.
 import { Calls, Refused, Stopped } from "./calls.mjs";
-import { Cells, textOfFile, unlessFaulty } from "./cells.mjs";
+import { Cells, textOfFile } from "./cells.mjs";
 import { Choices } from "./choices.mjs";
 import { made } from "./grid.mjs";
 import { LimitsForm } from "./limits_form.mjs";
 import { changesOf, fillMorePlaces, fillOther, placesOf, tellOther } from "./more_plans.mjs";
-import { cellsAsText, csvOf, TableFault, tableOf } from "./tables.mjs";
+import { cellsAsText, csvOf, orTell, TableFault, tableOf } from "./tables.mjs";
 
 /** The attributes of the sheet's template that name elements of it. */
 const NAMING = ["id", "for", "aria-labelledby", "aria-describedby"];
@@ -138,7 +138,7 @@ export class Sheet {
 
   /** Takes the limits of a table, and says which of its names nothing has. */
   #takeLimits(text) {
-    const limits = unlessFaulty(() => this.kind.limitsOf(tableOf(text)), (fault) => this.#tellLimits(fault));
+    const limits = orTell(() => this.kind.limitsOf(tableOf(text)), (fault) => this.#tellLimits(fault));
     if (!limits) return;
     const known = this.kind.namesOf(this.cells.read);
     this.limits.take(limits, (name) => (known.get(name) ?? []).filter((it) => !limits.has(it)));

@@ -33,6 +33,17 @@ export class TableFault extends Error {
   }
 }
 
+/** What a function makes, or null where a table has a fault, which is told. */
+export function orTell(make, tell) {
+  try {
+    return make();
+  } catch (error) {
+    if (!(error instanceof TableFault)) throw error;
+    tell(error);
+    return null;
+  }
+}
+
 /** A line of a table: its number, and its cells by columns. */
 export class TableRow {
   constructor(line, cells) {
