@@ -182,7 +182,7 @@ class Use(Page):
         self.assertRegex(self.text("#description-fault"),
                          "^Line 8, NumberRange: the number is out of its range: .* Go to line 8$")
         self.assertEqual(self.of("#description", "it.getAttribute('aria-invalid')"), "true")
-        top, bottom = self.place_of(".mark")
+        top, bottom = self.place_of("#text .mark")
         area, _ = self.place_of("#description")
         line = self.of("#description", "parseFloat(getComputedStyle(it).lineHeight)")
         self.assertAlmostEqual(top, area + 8 + 7 * line, delta=1.5)
@@ -194,14 +194,14 @@ class Use(Page):
         self.assertEqual(chosen, "class 1 7 9")
         self.write("#description", PEOPLE)
         self.assertEqual(self.text("#description-fault"), "")
-        self.assertTrue(self.of(".mark", "it.hidden"))
+        self.assertTrue(self.of("#text .mark", "it.hidden"))
 
     def test_a_fault_far_below_is_scrolled_to(self):
         lines = ["matroids 1", "graph 500 400", *(f"edge {e} {e}" for e in range(400)), "end", ""]
         lines[300] = "edge 1"
         self.write("#description", "\n".join(lines))
         self.solve()
-        (top, bottom), (mark_top, mark_bottom) = map(self.place_of, ("#description", ".mark"))
+        (top, bottom), (mark_top, mark_bottom) = map(self.place_of, ("#description", "#text .mark"))
         self.assertTrue(top <= mark_top and mark_bottom <= bottom)
 
     def test_a_fault_of_an_answer_is_marked_there(self):

@@ -2,6 +2,8 @@
 
 /** How many lines are shown at once; more would hold up the browser. */
 const LINES_AT_ONCE = 200;
+/** The characters for which a cell has room in a narrow window: at least so many, and at most. */
+const [LEAST_ROOM, MOST_ROOM] = [4, 20];
 
 /** An element with these properties and children. */
 export function made(name, properties = {}, ...children) {
@@ -38,12 +40,14 @@ export function headsOf(...texts) {
 export class Grid {
   /** `table` and `part`, where it is told how much is shown, are elements; `tell` is called when a cell is changed. */
   constructor({ table, part }, tell) {
-    Object.assign(this, { table, part, tell, heads: [], lines: [], shown: 0 });
+    Object.assign(this, { table, part, tell, heads: [], lines: [], rooms: [], shown: 0 });
   }
 
   /** Shows these lines of cells below these heads. */
   show(heads, lines) {
     Object.assign(this, { heads, lines, shown: 0 });
+    const longest = (column) => lines.reduce((most, line) => Math.max(most, line[column]?.length ?? 0), LEAST_ROOM);
+    this.rooms = heads.map((_, column) => Math.min(longest(column), MOST_ROOM));
     this.table.replaceChildren(made("thead", {}, headsOf("line", ...heads)), made("tbody"));
     this.#showMore();
   }
@@ -57,12 +61,14 @@ export class Grid {
   }
 
   #rowOf(place) {
-    const cells = this.heads.map((head, column) =>
-      typedCell(this.lines[place][column] ?? "", `${head}, line ${place + 1}`, (value) => {
+    const cells = this.heads.map((head, column) => {
+      const cell = typedCell(this.lines[place][column] ?? "", `${head}, line ${place + 1}`, (value) => {
         this.lines[place][column] = value;
         this.tell();
-      }),
-    );
+      });
+      cell.firstChild.style.minWidth = `calc(${this.rooms[column]}ch + 1rem)`;
+      return cell;
+    });
     return made("tr", {}, made("th", { scope: "row", textContent: place + 1 }), ...cells);
   }
 

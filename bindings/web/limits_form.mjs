@@ -20,9 +20,10 @@ export class LimitsForm {
     this.shown = "";
   }
 
-  /** The number of a limit as it is shown: 1 to begin with for how many there are at most, unless a column has another first value. */
+  /** The number of a limit as it is shown: 1 to begin with for how many there are at most; in a column with a first value that one, if there is none. */
   #valueOf(name, { kind, column, first }) {
-    return this.values.get([name, kind, column].join(JOINT)) ?? first ?? (kind === "" && column === "most" ? "1" : "");
+    const typed = this.values.get([name, kind, column].join(JOINT));
+    return first ? typed || first : (typed ?? (kind === "" && column === "most" ? "1" : ""));
   }
 
   /**

@@ -36,7 +36,7 @@ function groupsOf({ wishes, words, hasDays, hasWeeks }) {
   const column = (kind, column, words) => ({ kind, column, words });
   const most = column("", "most", "at most");
   const ofPeople = [
-    most, ...(hasWeeks ? [column("", "week", "in a week")] : []), ...(hasDays ? [column("", "day", "on a day")] : []),
+    most, ...(hasWeeks ? [column("", "week", "in a week")] : []), ...(hasDays ? [{ ...column("", "day", "on a day"), first: "1" }] : []),
     ...kinds.map((it) => column(it, "most", "at most")),
   ];
   const ofShifts = [

@@ -28,15 +28,24 @@ export function countCell(there, most, isBelow = false) {
   return made("td", { className, textContent: `${there} of ${most}` });
 }
 
+/** The shifts with their limits as the table has them: those of a week and of a day together. */
+function inOrderOfDays(shifts) {
+  const found = [...shifts];
+  const first = (one, ...parts) => found.findIndex(([it]) => parts.every((part) => it[part] === one[part]));
+  const placed = found.map((it) => [first(it[0], "week"), first(it[0], "week", "day"), it]);
+  return placed.sort(([week, day], [otherWeek, otherDay]) => week - otherWeek || day - otherDay).map(([, , it]) => it);
+}
+
 export function fillRoster(table, roster, turn) {
-  const { wishes, shifts, people, words } = roster.request;
+  const { wishes, people, words } = roster.request;
+  const shifts = inOrderOfDays(roster.request.shifts);
   const places = new Map(wishes.map((it, place) => [`${it.person}\0${it.shift.title}`, place]));
-  const columns = [...shifts.keys()];
+  const columns = shifts.map(([it]) => it);
   const rows = [...people].map(([person, { most }]) => {
     const cells = columns.map((it) => cellOfWish(roster, places.get(`${person}\0${it.title}`), turn));
     return made("tr", {}, made("th", { scope: "row", textContent: person }), ...cells, countCell(roster.ofPerson(person).length, most));
   });
-  const counts = [...shifts].map(([shift, limit]) => {
+  const counts = shifts.map(([shift, limit]) => {
     const there = roster.inShift(shift).length;
     return countCell(there, limit.most, there < limit.least);
   });
