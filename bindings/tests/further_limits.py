@@ -14,6 +14,8 @@ import unittest
 from planning import InFolder, WISHES, ran
 
 from matbench import limits
+from matbench.limits.bounds import Bounds
+from matbench.limits.pricing import Pricing
 from matbench.limits.real_names import real_names
 from matbench.limits.showing import outcome_text
 
@@ -24,6 +26,41 @@ SHIFTS = ("person;shift;gain\nJörg;Mo Früh;10,25\nJörg;Mo Nacht;9\nZoë;Mo Fr
 ROOM = "name;most;least\nMo Früh;2;1\nMo Nacht;1;\nJörg;2;\nZoë;2;\nAnn;1;\n"
 HOURS = ("limit;most;element;amount\nJörg;8;Jörg.*Nacht;10\nJörg;;Jörg.*Früh;7,5\n"
          "Zoë;10;Zoë.*;6\n")
+
+
+#: No three of these keep the limits that are given below: so prices for three grow without end.
+NO_THREE = """matroids 2
+pair 8
+elements a0 a1 a2 a3 a4 a5 a6 a7
+weights 0 2 8 -2 4 9 8 7
+partition 3
+class 1 a6 a7
+class 1 a0 a1 a2 a3
+class 2 a4 a5
+graphic 4
+edge 3 1
+edge 2 3
+edge 3 1
+edge 3 1
+edge 0 1
+edge 2 0
+edge 3 0
+edge 0 3
+end
+"""
+
+
+class Prices(unittest.TestCase):
+    """The search for prices."""
+
+    def test_it_ends_where_prices_become_too_large(self):
+        further = [limits.Limit("l0", 12, {0: 1, 1: 4, 3: 8, 4: 6, 6: 6, 7: 6}),
+                   limits.Limit("l1", 0, dict.fromkeys(range(1, 7), 1))]
+        turns = iter(range(500))
+        pricing = Pricing(Bounds(limits.Joined([NO_THREE]), further, 3), lambda *_: None,
+                          lambda: next(turns, None) is None)
+        pricing.run(80)
+        self.assertIsNotNone(next(turns, None))
 
 
 class Tables(InFolder):

@@ -12,9 +12,9 @@ if TYPE_CHECKING:
 
     from matbench.limits.bounds import Bounds, Solve
 
-#: So many turns of the search for the next prices, and so many solves in a row without a better
-#: bound.
-TURNS, NULLS = 300, 25
+#: So many turns of the search for the next prices, so many solves in a row without a better bound,
+#: and so many prices in a row that are too large for a solve.
+TURNS, NULLS, MISSES = 300, 25, 8
 
 
 @dataclass
@@ -194,7 +194,8 @@ class Pricing:
         """Searches for prices, by so many solves at most, until the bound meets the best plan or
         does not fall any more."""
         self._set_units()
-        center, scale, nulls = [0.0] * len(self.bounds.limits), self.bounds.scale, 0
+        center, scale = [0.0] * len(self.bounds.limits), self.bounds.scale
+        nulls = misses = 0
         found = self._take(center)
         if found is None:
             return
@@ -208,6 +209,9 @@ class Pricing:
             mixed, step = following
             nulls = 0 if len(self.bounds.limits) > limits else nulls
             found = self._take([it * unit for it, unit in zip(mixed.prices, self._units)])
+            misses = 0 if found else misses + 1
+            if misses > MISSES:
+                return
             if found is None:
                 step /= 10
             elif found.value / scale < value - 0.1 * max(0.0, value - mixed.foreseen):
