@@ -74,8 +74,21 @@ class Tables(InFolder):
         table = self.file("l.csv", "limit,most,element\na,1,Cleo.*\nb,1,Ada.*\nb,,Dana.?on\n")
         status, text, notes = ran("limits", self.wishes, table)
         self.assertEqual((status, text.splitlines()[0]), (0, "plan: 2 elements, gain 8"))
+        told = "These limits count nothing, since no element fits them: a."
+        self.assertEqual(text.splitlines()[2], told)
+        found = json.loads(ran("limits", self.wishes, table, "--format", "json")[1])
+        self.assertEqual(found["count nothing"], ["a"])
         self.assertEqual(notes, f"matbench limits: {table}: no element fits these patterns, so they"
                                 " count nothing: 'Cleo.*' (line 2), 'Dana.?on' (line 4)\n")
+
+    def test_a_table_of_which_no_pattern_fits_is_refused(self):
+        table = self.file("l.csv", "limit,most,element\na,1,Cleo.*\nb,1,Dana.*\n")
+        for words in ([], ["--verify", self.folder]):
+            status, text, notes = ran("limits", self.wishes, table, *words)
+            self.assertEqual((status, text), (2, ""))
+            self.assertEqual(notes, f"matbench limits: {table}: no element fits any of these patterns,"
+                                    " so nothing would be limited: 'Cleo.*' (line 2), 'Dana.*' (line"
+                                    " 3). The first element is called Ada.Mon\n")
 
     def test_names_of_no_element_are_refused_together(self):
         table = self.file("l.csv", "limit,most,element\na,1,Cleo.Mon\na,,Ada.*\nb,1,\nb,,Eve\n")

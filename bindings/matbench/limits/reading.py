@@ -50,15 +50,18 @@ def _listed(sheet: Sheet, rows: Sequence[Row]) -> str:
     return ", ".join(words[:MOST_LISTED]) + more
 
 
-def _hold_to_elements(sheet: Sheet, lines: Sequence[Line], notes: list[str]) -> None:
-    """Raises InputFault where lines name what is no element. Of patterns that fit none there is a
-    note."""
+def _hold_to_elements(sheet: Sheet, lines: Sequence[Line], first: str, notes: list[str]) -> None:
+    """Raises InputFault where lines name what is no element, or no line has an element. Of patterns
+    that fit none beside others there is a note."""
     without = [row for row, members in lines if not members]
     patterns = [row for row in without if _PATTERN.search(row["element"])]
     names = [row for row in without if not _PATTERN.search(row["element"])]
     if names:
         raise InputFault(f"{sheet.name}: these are no elements of the descriptions, and no patterns"
                          f" of one, such as Ada.*night: {_listed(sheet, names)}")
+    if patterns and len(patterns) == len(lines):
+        raise InputFault(f"{sheet.name}: no element fits any of these patterns, so nothing would be"
+                         f" limited: {_listed(sheet, patterns)}. The first element is called {first}")
     if patterns:
         notes.append(f"{sheet.name}: no element fits these patterns, so they count nothing:"
                      f" {_listed(sheet, patterns)}")
@@ -116,7 +119,7 @@ def read_limits(source: Source, joined: Joined, called: Sequence[str] = (),
         if not row["limit"]:
             raise row.fault("the limit has no name")
     lines = [(row, _elements(row["element"], joined, called)) for row in sheet.rows]
-    _hold_to_elements(sheet, lines, told)
+    _hold_to_elements(sheet, lines, [*called, *joined.names, "nothing"][0], told)
     by_name: dict[str, list[Line]] = {}
     for row, members in lines:
         by_name.setdefault(row["limit"], []).append((row, members))

@@ -54,6 +54,11 @@ def _elements(size: int | None) -> str:
     return "" if size is None else f" of {_counted(size)}"
 
 
+def _empty(outcome: Outcome) -> list[str]:
+    """The names of the further limits that count no element."""
+    return [it.name for it in outcome.limits if not it.source and not it.amounts]
+
+
 def _sentences(outcome: Outcome, real: RealNames | None) -> list[str]:
     """What is known of the best plan, in words that promise no more."""
     def told(gain: int) -> str:
@@ -79,7 +84,9 @@ def _names(outcome: Outcome, real: RealNames | None) -> list[str]:
 
 def _words(outcome: Outcome, real: RealNames | None) -> str:
     """The outcome as text."""
-    lines = _sentences(outcome, real)
+    lines, empty = _sentences(outcome, real), _empty(outcome)
+    if empty:
+        lines.append(f"These limits count nothing, since no element fits them: {', '.join(empty)}.")
     if outcome.plan is not None:
         lines += ["", *(f"  {name}" for name in _names(outcome, real))]
         table = limits_table(outcome).text() if len(outcome.limits) else ""
@@ -98,7 +105,8 @@ def _record(outcome: Outcome, real: RealNames | None) -> dict[str, Any]:
     found = {"plan": None if plan is None else outcome.names, "gain": shown(outcome.gain),
              "bound": shown(outcome.bound), "best": outcome.is_best, "none": outcome.is_none,
              "gap": gap if gap is None or isinstance(gap, int) else str(gap), "size": outcome.size,
-             "limits": limits_table(outcome).records(), "solves": outcome.solves,
+             "limits": limits_table(outcome).records(), "count nothing": _empty(outcome),
+             "solves": outcome.solves,
              "seconds": round(outcome.seconds, 1)}
     if real is not None and plan is not None:
         found["real"] = {"names": _names(outcome, real), "gain": _number(real.gain_of(plan)),
