@@ -57,7 +57,8 @@ def _find() -> Path:
     raise NoLibrary(f"there is no {NAME} in {looked}. The wheel of matbench has it inside;"
                     f" bindings/build.sh of a checkout builds it; {VARIABLE} names one that is"
                     " elsewhere. The program does as well: MATBENCH_PROGRAM names it, or it is"
-                    " the command matbench on the search path")
+                    " the command matbench on the search path, or ./matbench of the checkout that"
+                    " the package is in")
 
 
 @functools.lru_cache(maxsize=None)

@@ -5,6 +5,7 @@ from __future__ import annotations
 import os
 import shutil
 import subprocess
+import sys
 import tempfile
 from pathlib import Path
 from typing import TYPE_CHECKING
@@ -34,10 +35,34 @@ def named() -> str | None:
 
 
 def found() -> str | None:
-    """The program that is named, or is on the search path, or was built in the checkout that this
-    package is in; or None."""
-    built = Path(__file__).absolute().parent.parent.parent / "crates/mat_main/out/mat_main"
-    return named() or shutil.which("matbench") or shutil.which(str(built))
+    """The program that is named, or is on the search path, or is in the checkout that this package
+    is in, where its launcher puts it; or None. Raises NoLibrary where the launcher cannot."""
+    top = Path(__file__).absolute().parent.parent.parent
+    built = top / "crates/mat_main/out/mat_main"
+    return named() or shutil.which("matbench") or shutil.which(str(built)) or _set_out(top, built)
+
+
+def _set_out(top: Path, built: Path) -> str | None:
+    """The program of a checkout, after its launcher has unpacked the released one, as at the first
+    `./matbench`; the launcher where it can unpack it for a single call alone. None where this is no
+    checkout. Nothing is proved or built: the launcher finds no `rt`."""
+    launcher = top / "matbench"
+    if not (top / "release/CONTENTS").is_file() or not os.access(launcher, os.X_OK):
+        return None
+    folders = [it for it in os.get_exec_path() if not os.path.exists(os.path.join(it, "rt"))]
+    try:
+        done = subprocess.run([str(launcher), "--version"], stdin=subprocess.DEVNULL,
+                              capture_output=True, check=False,
+                              env={**os.environ, "PATH": os.pathsep.join(folders)})
+    except OSError as error:
+        raise NoLibrary(f"{launcher} does not run here: {error.strerror}") from error
+    told = done.stderr.decode("utf-8", "replace")
+    if done.returncode:
+        raise NoLibrary(f"{launcher} has put no program at hand, as it was started without rt; start"
+                        " it by hand where it is to prove and build one. It says:"
+                        f" {' '.join(told.split())[:500]}")
+    sys.stderr.write(told)
+    return shutil.which(str(built)) or str(launcher)
 
 
 def _write_files(folder: str, files: Mapping[str, bytes]) -> None:

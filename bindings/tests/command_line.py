@@ -118,6 +118,39 @@ class OfTheProgram(unittest.TestCase):
                                           env={"PATH": "/usr/bin:/bin", **settings})
                     self.assertEqual((done.stdout, done.stderr), ("25 True\n2\n[6]\n", ""))
 
+    def checkout(self, folder, launcher):
+        """A checkout with the package and this launcher, and how a command ends in it."""
+        shutil.copytree(HERE.parent / "matbench", f"{folder}/bindings/matbench",
+                        ignore=shutil.ignore_patterns("*.so"))
+        for name in ("release", "kit", "crates/mat_main/out"):
+            os.makedirs(f"{folder}/{name}")
+        for name, text, mode in (("release/CONTENTS", "", 0o644), ("matbench", launcher, 0o755),
+                                 ("kit/rt", "#!/bin/sh\n", 0o755)):
+            path = pathlib.Path(folder, name)
+            path.write_text(text)
+            path.chmod(mode)
+        done = subprocess.run(
+            [sys.executable, "-m", "matbench", "plan", str(PEOPLE)], capture_output=True, text=True,
+            check=False, env={"PATH": f"{folder}/kit:/usr/bin:/bin",
+                              "PYTHONPATH": f"{folder}/bindings"})
+        return done.returncode, done.stdout[:4], done.stderr
+
+    def test_in_a_fresh_checkout_its_launcher_is_started(self):
+        placed = (f"#!/bin/sh\ncp {PROGRAM} ${{0%/*}}/crates/mat_main/out/mat_main\n"
+                  "echo 'this is the released program' >&2\n")
+        once = f"#!/bin/sh\nexec {PROGRAM} \"$@\"\n"
+        for launcher, told in ((placed, "this is the released program\n"), (once, "")):
+            with self.subTest(told=told), tempfile.TemporaryDirectory() as folder:
+                self.assertEqual(self.checkout(folder, launcher), (0, "BEST", told))
+
+    def test_a_launcher_that_has_no_program_is_told_and_nothing_is_built(self):
+        builds = "#!/bin/sh\ncommand -v rt >&2 && exit 0\necho 'no program\nis here' >&2\nexit 70\n"
+        with tempfile.TemporaryDirectory() as folder:
+            self.assertEqual(self.checkout(folder, builds), (
+                2, "", f"matbench plan: matbench is not here: {folder}/matbench has put no program"
+                       " at hand, as it was started without rt; start it by hand where it is to"
+                       " prove and build one. It says: no program is here\n"))
+
     def test_a_program_that_is_named_and_missing_is_told(self):
         status, _, note = ran("--version", MATBENCH_PROGRAM="/nowhere/it")
         self.assertEqual(status, 2)
