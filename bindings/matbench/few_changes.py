@@ -14,15 +14,17 @@ from typing import TYPE_CHECKING, Any, NamedTuple
 from matbench.command_lines import DONE, parser_of, write
 from matbench.faults import InputFault
 from matbench.last_plans import names_of_last
-from matbench.plans import NoPlan, Wanted, add_words, no_plan, record_of, wanted_of
+from matbench.plans import NoPlan, Wanted, add_words, no_plan, real_record_of, wanted_of
 from matbench.progress import Progress
+from matbench.real_names import number_of
 from matbench.tables import Table, json_of
 
 if TYPE_CHECKING:
     from collections.abc import Callable, Iterable, Sequence
 
     from matbench.descriptions import Problem
-    from matbench.variants import Plan, Rung
+    from matbench.real_names import RealNames
+    from matbench.variants import Base, Plan, Rung
 
     #: Is told how many plans are found so far.
     Telling = Callable[[int], None]
@@ -169,31 +171,47 @@ def _last_plan(wanted: Wanted, names: Iterable[str]) -> tuple[frozenset[int], li
     base, found, unknown = wanted.base, set(), []
     for name in dict.fromkeys(names):
         own = [it for it, other in enumerate(base.names) if name == other]
-        own = own or sorted(base.elements([name])) if _is_wish(wanted, name) else own
+        own = own or sorted(base.elements([name])) if _is_known(wanted, name) else own
         found.update(own)
         unknown += [] if own else [name]
     return base.copies(found), unknown
 
 
-def _is_wish(wanted: Wanted, name: str) -> bool:
-    """Whether a name is that of a wish of the problem."""
-    return name in wanted.base.wishes(range(len(wanted.base.names)))
+def _is_known(wanted: Wanted, name: str) -> bool:
+    """Whether a name is that of a wish of the problem, or a real one."""
+    base = wanted.base
+    return name in base.wishes(range(len(base.names))) or \
+        base.real is not None and name in base.real.names
 
 
-def _table(choices: Sequence[Choice]) -> Table:
+def _shown_cost(cost: Cost | None, real: RealNames | None) -> str | int | float | None:
+    """What a change costs, in the numbers of the tables where there are some."""
+    if cost is None or real is None or real.unit is None:
+        return None if cost is None else str(cost)
+    front, behind = (cost.gain, cost.tie) if real.has_needs else (Fraction(0), cost.gain)
+    unit = real.unit
+    return f"{float(front):g} of what is needed, {float(behind / unit):.6g}" if front else \
+        number_of(Fraction(round(behind / unit, 4)))
+
+
+def _table(choices: Sequence[Choice], base: Base) -> Table:
     """A row for each plan."""
     rows: list[list[Any]] = []
+    shown = base.shown
+    has_unit = base.real is not None and base.real.unit is not None
     for it in choices:
-        most = None if it.most_cost is None else str(it.most_cost)
-        rows.append([it.changes, str(it.plan.weight), it.plan.size, str(it.least_cost), most,
-                     " ".join(it.new), " ".join(it.dropped)])
-    return Table(("changes", "weight", "size", "best if a change costs", "to", "new", "dropped"),
+        weight = shown.weight(it.plan.weight)
+        rows.append([it.changes, weight, it.plan.size, _shown_cost(it.least_cost, base.real),
+                     _shown_cost(it.most_cost, base.real), shown.names(it.new),
+                     shown.names(it.dropped)])
+    return Table(("changes", "gain" if has_unit else "weight", "size", "best if a change costs", "to", "new", "dropped"),
                  rows)
 
 
 def _last_of(path: str, wanted: Wanted) -> tuple[frozenset[int], list[str]]:
     """The last plan of a file, and its names of no element. Raises InputFault if all are none."""
-    names = names_of_last(path, wanted.base.names)
+    real = wanted.base.real
+    names = names_of_last(path, wanted.base.names, real.names if real else ())
     last, unknown = _last_plan(wanted, names)
     if unknown and not last:
         raise InputFault(f"{path}: the description has none of its names, such as"
@@ -214,12 +232,12 @@ def main(words: Sequence[str]) -> int:
             choices = _choices(wanted, last, lambda found: progress.tell(f"{found} plans found"))
         except NoPlan as error:
             return no_plan(error)
-    table = _table(choices)
+    table = _table(choices, wanted.base)
     if given.format == "table":
         gone = f"Not in the description: {' '.join(unknown)}.\n\n" if unknown else ""
         write(gone + table.text())
     else:
-        plans = [{**row, "plan": record_of(it.plan)}
+        plans = [{**row, "plan": real_record_of(it.plan, wanted.base)}
                  for row, it in zip(table.records(), choices)]
         write(table.csv() if given.format == "csv" else json_of({"plans": plans}))
     return DONE

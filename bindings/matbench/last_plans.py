@@ -38,12 +38,17 @@ def _names_of_rows(rows: Sequence[Row]) -> list[list[str]]:
     return [list(names) for names in zip(*found)]
 
 
-def _granted(sheet: Sheet, known: Collection[str]) -> list[str]:
+def _granted(sheet: Sheet, known: Collection[str], real: Collection[str]) -> list[str]:
     """The names of the wishes that a roster grants. Raises InputFault for one that has a number in
     a description, which depends on its other wishes."""
     found = []
+    titles = titles_of(sheet.rows)
     for row, names in zip(sheet.rows, _names_of_rows(sheet.rows)):
         if not is_yes(row, "granted"):
+            continue
+        called = f"{row['person']}.{titles[row['week'], row['day'], row['shift']]}"
+        if called in real:
+            found.append(called)
             continue
         own = [it for it in names if it in known]
         front, _, back = (own or names)[0].partition(".")
@@ -54,17 +59,22 @@ def _granted(sheet: Sheet, known: Collection[str]) -> list[str]:
     return found
 
 
-def names_of_last(path: str, known: Collection[str]) -> list[str]:
+def names_of_last(path: str, known: Collection[str], real: Collection[str] = ()) -> list[str]:
     """The names of the last plan in a file: of a roster as CSV those of the granted wishes, as a
     description has them, whose names `known` has; and else those in a text, without a first line
-    such as `4 for 25:`. Raises InputFault if it is too long, or there is nothing in it."""
+    such as `4 for 25:`. A line, or what stands between semicolons in it, may be one of the names
+    that are `real`, which may have spaces. Raises InputFault if it is too long, or there is nothing in it."""
     sheet = _roster_of(path)
     if sheet is not None:
-        return _granted(sheet, known)
+        return _granted(sheet, known, real)
     text = read_text(path)
     if len(text) > MOST_BYTES:
         raise InputFault(f"{path}: this is too long for the names of a plan")
     if not text.strip():
         raise InputFault(f"{path}: there is nothing in it")
     rest = re.sub(r"(?m)^\d+ for \S+:\s*$", "", text).strip()
-    return [it for it in re.split(r"[\s,]+", rest) if it]
+    found = []
+    for line in rest.splitlines():
+        parts = [it.strip() for it in line.split(";")]
+        found += parts if set(parts) <= set(real) else re.split(r"[\s,]+", line)
+    return [it for it in found if it]

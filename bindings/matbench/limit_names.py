@@ -3,8 +3,8 @@
 A limit on Ada.Monday and Ada.Tuesday is that of Ada, if no other element begins with Ada; one on
 Ada.Monday and Ben.Monday is that of Monday, if no other element ends with it. A name of an element
 has pieces between dots, and words between `_` within them; that of a limit goes up to a dot if all
-its elements share the words. Copies of a wish have its name. Where elements have no names, limits
-have none.
+its elements share the words. Copies of a wish have its name, and real names go before others, with
+spaces for `_`. Where elements have no names, limits have none.
 """
 from __future__ import annotations
 
@@ -58,9 +58,17 @@ def _side(names: Sequence[str], members: Iterable[int], is_front: bool) -> str |
 def limit_names(base: Base) -> list[str]:
     """A name for each limit of a problem: of its elements if they have one, and else its kind and
     its place. Of a limit that has both, the side goes first that more limits of its rule have."""
-    if all(name.isdigit() for name in base.names):
+    if base.real is None and all(name.isdigit() for name in base.names):
         return [_name(it, (None, None), True) for it in base.limits]
-    wishes = list(map(wish_of, base.names))
+    if base.real is not None:
+        called = [name.replace("_", "\0").replace(" ", "_") for name in base.real.names]
+        found = _named(base, called)
+        return [name.replace("_", " ").replace("\0", "_") for name in found]
+    return _named(base, list(map(wish_of, base.names)))
+
+
+def _named(base: Base, wishes: Sequence[str]) -> list[str]:
+    """A name for each limit of a problem, of whose elements these are the wishes."""
     sides = [(_side(wishes, it.members, True), _side(wishes, it.members, False))
              for it in base.limits]
     return [_name(it, sides[place], _fronts(base.limits, sides, it.rule))

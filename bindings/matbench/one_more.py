@@ -15,7 +15,7 @@ from typing import TYPE_CHECKING, Any, NamedTuple
 
 from matbench.command_lines import DONE, parser_of, write
 from matbench.limit_names import limit_names
-from matbench.plans import NoPlan, Wanted, add_words, no_plan, record_of, wanted_of
+from matbench.plans import NoPlan, Wanted, add_words, no_plan, real_record_of, wanted_of
 from matbench.progress import Progress
 from matbench.tables import Table, json_of
 from matbench.variants import wish_of
@@ -25,6 +25,7 @@ if TYPE_CHECKING:
     from collections.abc import Callable, Iterable, Sequence
 
     from matbench.descriptions import Problem
+    from matbench.real_names import Shown
     from matbench.variants import Limit, Plan
     from matbench.weights import Weight
 
@@ -189,17 +190,16 @@ def one_more(problem: Problem, size: int | None = None, must: Iterable[str] = ()
     return _gains(Wanted.of(problem, must, must_not, size), has_least, telling)
 
 
-def _table(best: Plan, gains: Sequence[Gain]) -> Table:
+def _table(best: Plan, gains: Sequence[Gain], shown: Shown) -> Table:
     """A row for each limit, in the order of the description."""
     has_least = any(it.least for it in gains)
     own = list(dict.fromkeys(map(wish_of, best.members)))
     rows: list[list[Any]] = []
     for it in gains:
         there = list(dict.fromkeys(map(wish_of, it.plan.members)))
-        gain = it.gain if isinstance(it.gain, int) else str(it.gain)
-        rows.append([it.limit, it.rule, it.cap, *([it.least] if has_least else []), it.used, gain,
-                     " ".join(name for name in there if name not in own),
-                     " ".join(name for name in own if name not in there)])
+        rows.append([it.limit, it.rule, it.cap, *([it.least] if has_least else []), it.used,
+                     shown.cell(it.gain), shown.names(name for name in there if name not in own),
+                     shown.names(name for name in own if name not in there)])
     least = ["least"] if has_least else []
     return Table(["limit", "rule", "most", *least, "used", "one more gains", "new", "dropped"], rows)
 
@@ -211,16 +211,18 @@ def main(words: Sequence[str]) -> int:
     parser.add_argument("--least", action="store_true", help="the first number of a weight A:B"
                         " counts what is needed, also if no wish has two copies")
     given = parser.parse_args(list(words))
+    wanted = wanted_of(given)
     with Progress("one-more") as progress:
         try:
-            best, gains = _gains(wanted_of(given), given.least,
+            best, gains = _gains(wanted, given.least,
                                  lambda place, of: progress.tell(f"{place} of {of} limits"))
         except NoPlan as error:
             return no_plan(error)
-    table = _table(best, gains)
+    shown = wanted.base.shown
+    table = _table(best, gains, shown)
     if given.format == "table":
-        write(f"BEST: {best.size} elements, weight {best.weight}.\n\n{table.text()}")
+        write(f"BEST: {best.size} elements, {shown.worth(best.weight)}.\n\n{table.text()}")
     else:
-        write(table.csv() if given.format == "csv"
-              else json_of({"best": record_of(best), "limits": table.records()}))
+        write(table.csv() if given.format == "csv" else json_of(
+            {"best": real_record_of(best, wanted.base), "limits": table.records()}))
     return DONE

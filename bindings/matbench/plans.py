@@ -7,6 +7,7 @@ from typing import TYPE_CHECKING, Any
 
 from matbench.command_lines import DONE, NOT_SO, parser_of, write
 from matbench.faults import InputFault
+from matbench.real_names import number_of
 from matbench.tables import FORMS, Table, json_of
 from matbench.variants import Base, best_rung, certificate_of, packed, rungs_of
 from matbench.weights import pair_of
@@ -16,6 +17,7 @@ if TYPE_CHECKING:
     from collections.abc import Collection, Iterable, Mapping, Sequence
 
     from matbench.descriptions import Problem
+    from matbench.real_names import Shown
     from matbench.variants import Plan, Rung
     from matbench.weights import Weight
 
@@ -26,7 +28,9 @@ If larger plans weigh less, as always where weights are costs, the best one of t
 told too.
 
 FILE is a description of the form `pair`, or `list` with one matroid. An element is called by its
-name, or by its number if it has none; X.must, X.may and X.more are copies of the wish X."""
+name, or by its number if it has none; X.must, X.may and X.more are copies of the wish X. Where FILE
+lies in a folder that `roster --proof` wrote, with the table elements.csv, elements have the names of
+the wishes too, and the answer has the names and the numbers of the roster."""
 EXAMPLES = """\
 examples:
   python3 -m matbench plan wishes.txt
@@ -102,7 +106,8 @@ class Wanted:
         if missing:
             whole = "" if self.size is None else f" of {self.size} elements"
             raise NoPlan(f"no plan{whole} has all that must be in it: one that has most of them"
-                         f" lacks {', '.join(sorted(missing))}", text, certificate)
+                         f" lacks {', '.join(map(self.base.shown.name, sorted(missing)))}",
+                         text, certificate)
         return rung
 
 
@@ -142,12 +147,36 @@ def record_of(plan: Plan) -> dict[str, Any]:
     return {"size": plan.size, "weight": str(plan.weight), "elements": list(plan.members)}
 
 
-def _told_largest(best: Plan, largest: Plan) -> str:
+def real_record_of(plan: Plan, base: Base) -> dict[str, Any]:
+    """A plan as plain data, with what its elements are called and gain if that is known."""
+    found = record_of(plan)
+    if base.real is not None:
+        members = [base.names.index(it) for it in plan.members]
+        found["real"] = {"names": [base.real.names[it] for it in members],
+                         "gain": number_of(base.real.gain_of(members)),
+                         "needed": base.real.needed_of(members)}
+    return found
+
+
+def _told_largest(best: Plan, largest: Plan, shown: Shown) -> str:
     """The heaviest plan of the largest size, if it is larger than the best one."""
     if largest.size <= best.size:
         return ""
-    return (f"LARGEST: {largest.size} elements, weight {largest.weight}:"
-            f" {' '.join(largest.members)}.\n")
+    return (f"LARGEST: {largest.size} elements, {shown.worth(largest.weight)}:"
+            f" {shown.names(largest.members)}.\n")
+
+
+def _table(plan: Plan, base: Base) -> Table:
+    """A row for each element, by its real name and gain if they are known."""
+    places = [base.names.index(it) for it in plan.members]
+    if base.real is None:
+        return Table(("element", "weight"),
+                     [(base.names[it], str(base.weights[it])) for it in places])
+    real = base.real
+    has_needs = real.has_needs
+    return Table(("element", "gain", *(["needed"] if has_needs else [])),
+                 [(real.names[it], number_of(real.gains[it]),
+                   *([real.needed[it]] if has_needs else [])) for it in places])
 
 
 def main(words: Sequence[str]) -> int:
@@ -164,13 +193,12 @@ def main(words: Sequence[str]) -> int:
     except NoPlan as error:
         return no_plan(error)
     largest = plan if given.size is not None else base.plan(wanted.last(certificate).members)
-    weights = dict(zip(base.names, map(str, base.weights)))
-    table = Table(("element", "weight"), [(name, weights[name]) for name in plan.members])
+    table, shown = _table(plan, base), base.shown
     if given.format == "table":
-        write(f"BEST: {plan.size} elements, weight {plan.weight}.\n{_told_largest(plan, largest)}\n"
-              f"{table.text()}")
+        write(f"BEST: {plan.size} elements, {shown.worth(plan.weight)}.\n"
+              f"{_told_largest(plan, largest, shown)}\n{table.text()}")
     elif given.format == "json":
-        write(json_of({**record_of(plan), "largest": record_of(largest)}))
+        write(json_of({**real_record_of(plan, base), "largest": real_record_of(largest, base)}))
     else:
         write(table.csv())
     return DONE

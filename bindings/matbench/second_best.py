@@ -15,7 +15,7 @@ from typing import TYPE_CHECKING
 from matbench.command_lines import DONE, NOT_SO, parser_of, write
 from matbench.commands import check
 from matbench.faults import InputFault
-from matbench.plans import NoPlan, Wanted, add_words, no_plan, record_of, wanted_of
+from matbench.plans import NoPlan, Wanted, add_words, no_plan, real_record_of, wanted_of
 from matbench.progress import Progress
 from matbench.refusals import BadCertificate
 from matbench.tables import Table, json_of
@@ -28,6 +28,7 @@ if TYPE_CHECKING:
     from collections.abc import Callable, Iterable, Sequence
 
     from matbench.descriptions import Problem
+    from matbench.real_names import Shown
     from matbench.variants import Plan, Rung
     from matbench.weights import Weight
 
@@ -238,41 +239,43 @@ def judged(wanted: Wanted, is_any_size: bool, folder: str) -> SecondBest:
     return search.result()
 
 
-def _less(found: SecondBest) -> str:
+def _less(found: SecondBest, shown: Shown) -> str:
     """How much less the second plan weighs."""
     assert found.second is not None
     if found.second.weight == found.best.weight:
         return "as good as the best"
-    return f"{found.best.weight - found.second.weight} less than the best"
+    return f"{shown.cell(found.best.weight - found.second.weight)} less than the best"
 
 
-def _table(found: SecondBest) -> Table:
+def _named(plan: Plan | None, shown: Shown) -> list[str]:
+    """What the elements of a plan are called, each once."""
+    return list(dict.fromkeys(map(shown.name, plan.members if plan else ())))
+
+
+def _table(found: SecondBest, shown: Shown) -> Table:
     """The elements of either plan."""
-    others = found.second.members if found.second else ()
-    best, second = set(found.best.members), set(others)
-    names = dict.fromkeys([*found.best.members, *others])
+    best, second = _named(found.best, shown), _named(found.second, shown)
     return Table(("element", "best", "second"),
-                 [(name, name in best, name in second) for name in names])
+                 [(name, name in best, name in second) for name in dict.fromkeys([*best, *second])])
 
 
-def _text(found: SecondBest) -> str:
+def _text(found: SecondBest, shown: Shown) -> str:
     """The result for people."""
-    lines = [f"BEST: {found.best.size} elements, weight {found.best.weight}.\n"]
+    lines = [f"BEST: {found.best.size} elements, {shown.worth(found.best.weight)}.\n"]
     if found.second is None:
         return lines[0] + "There is no other plan.\n"
-    best, second = set(found.best.members), set(found.second.members)
-    lines += [f"SECOND: {found.second.size} elements, weight {found.second.weight},"
-              f" {_less(found)}.\n",
-              f"  without: {' '.join(it for it in found.best.members if it not in second)}\n",
-              f"  with:    {' '.join(it for it in found.second.members if it not in best)}\n",
+    best, second = _named(found.best, shown), _named(found.second, shown)
+    lines += [f"SECOND: {found.second.size} elements, {shown.worth(found.second.weight)},"
+              f" {_less(found, shown)}.\n",
+              f"  without: {shown.names(it for it in best if it not in second)}\n",
+              f"  with:    {shown.names(it for it in second if it not in best)}\n",
               f"Left out, and solved again: {found.tried} of the {found.of} wishes of the best"
-              " plan. The others cannot bring more.\n\n", _table(found).text()]
+              " plan. The others cannot bring more.\n\n", _table(found, shown).text()]
     return "".join(lines)
 
 
-def _found(given: argparse.Namespace) -> SecondBest:
+def _found(wanted: Wanted, given: argparse.Namespace) -> SecondBest:
     """What is searched, or what a proof shows."""
-    wanted = wanted_of(given)
     if given.verify:
         return judged(wanted, given.any_size, given.verify)
     with Progress("second-best") as progress:
@@ -296,17 +299,19 @@ def main(words: Sequence[str]) -> int:
     if given.any_size and given.size is not None:
         raise InputFault("--any-size and --size do not go together")
     try:
-        found = _found(given)
+        wanted = wanted_of(given)
+        found = _found(wanted, given)
     except NoPlan as error:
         return no_plan(error)
     except NotShown as error:
         write(f"NOT RIGHT: {error}\n")
         return NOT_SO
+    base = wanted.base
     if given.format == "json":
-        second = record_of(found.second) if found.second else None
-        write(json_of({"best": record_of(found.best), "second": second}))
+        second = real_record_of(found.second, base) if found.second else None
+        write(json_of({"best": real_record_of(found.best, base), "second": second}))
     elif given.format == "csv":
-        write(_table(found).csv())
+        write(_table(found, base.shown).csv())
     else:
-        write(_text(found))
+        write(_text(found, base.shown))
     return DONE if found.second else NOT_SO

@@ -14,6 +14,7 @@ from matbench.calls import call, done
 from matbench.commands import show
 from matbench.descriptions import Description
 from matbench.faults import InputFault
+from matbench.real_names import RealNames, Shown, names_of_problem
 from matbench.weights import pair_of, read_weight, weight_of
 from matbench.writing import MOST_WEIGHT
 
@@ -116,7 +117,8 @@ def canonical_lines(problem: Problem, *forms: str) -> tuple[Description, list[st
 @dataclass(frozen=True)
 class Base:
     """A problem in parts. `lines` is its canonical text, `rules` where its matroids begin, and
-    `names` what its elements are called."""
+    `names` what its elements are called; `real` has what they are called by the table beside a
+    file, if there is one."""
 
     command: str
     names: tuple[str, ...]
@@ -124,6 +126,7 @@ class Base:
     lines: tuple[str, ...]
     rules: tuple[int, ...]
     limits: tuple[Limit, ...]
+    real: RealNames | None = None
 
     @classmethod
     def of(cls, problem: Problem) -> Base:
@@ -136,10 +139,18 @@ class Base:
         for rule in range(2 if form == "pair" else 1):
             rules.append(at)
             at = reader.matroid(at, rule + 1, True)
-        names = described.elements or range(int(count))
-        return cls("intersect" if form == "pair" else "best", tuple(map(str, names)),
-                   tuple(map(read_weight, lines[2].split()[1:])), tuple(lines), tuple(rules),
-                   tuple(reader.limits))
+        names = tuple(map(str, described.elements or range(int(count))))
+        weights = tuple(map(read_weight, lines[2].split()[1:]))
+        return cls("intersect" if form == "pair" else "best", names, weights, tuple(lines),
+                   tuple(rules), tuple(reader.limits), names_of_problem(problem, names, weights))
+
+    @property
+    def shown(self) -> Shown:
+        """How its elements and weights are shown."""
+        called: dict[str, str] = {}
+        for name, real in zip(self.names, self.real.names if self.real else ()):
+            called[name] = called[wish_of(name)] = real
+        return Shown(self.real, called)
 
     def copies(self, elements: Iterable[int]) -> frozenset[int]:
         """All elements of the wishes of these."""
@@ -151,12 +162,17 @@ class Base:
         return frozenset(wish_of(self.names[it]) for it in elements)
 
     def elements(self, names: Iterable[str]) -> frozenset[int]:
-        """The elements of these names, each of an element or of a wish. Raises InputFault for
-        another one."""
+        """The elements of these names, each of an element or of a wish, or a real one. Raises
+        InputFault for another one."""
         found: set[int] = set()
         for name in names:
             own = [it for it, other in enumerate(self.names) if other == name] or \
                 [it for it, other in enumerate(self.names) if wish_of(other) == name]
+            called = [it for it, real in enumerate(self.real.names if self.real else ())
+                      if real == name]
+            if called and not own:
+                found.update(self.copies(called))
+                continue
             if not own:
                 raise InputFault(f"{name}: there is no such element")
             found.update(self.copies(own) if self.names[own[0]] == wish_of(name) else own)

@@ -160,6 +160,44 @@ class RealNames(InFolder):
         text = ran("limits", self.text, table)[1]
         self.assertIn("gain 19 with 1 of what is needed", text)  # Zoë at night, Ann early
 
+    def test_a_description_with_other_names_says_where_it_has_a_table(self):
+        tables = [self.folder / "w.csv", self.folder / "l.csv"]
+        self.assertIn("--proof FOLDER writes it with elements.csv beside it",
+                      ran("roster", "--description", *tables)[2])
+        for path in tables:
+            path.write_text(path.read_text().replace("ö", "o").replace("ë", "e").replace("ü", "u")
+                            .replace(",25", "").replace(",5", ""))
+        self.assertEqual(ran("roster", "--description", *tables)[2], "")
+
+    def test_plans_have_the_names_and_numbers_of_the_roster(self):
+        text = ran("plan", self.text)[1]
+        self.assertEqual([line.split("  ")[0] for line in text.splitlines()], [
+            "BEST: 3 elements, gain 30.75 with 1 of what is needed.", "", "element", "-" * 12,
+            "Jörg.Mo Früh", "Zoë.Mo Früh", "Zoë.Mo Nacht"])
+        found = json.loads(ran("plan", self.text, "--must", "Jörg.Mo Nacht", "--must-not",
+                               "Ann.Mo Früh", "--format", "json")[1])
+        self.assertEqual(found["real"], {
+            "names": ["Jörg.Mo Früh", "Jörg.Mo Nacht", "Zoë.Mo Früh"], "gain": 27.25, "needed": 1})
+        self.assertEqual(found["elements"],
+                         ["Jorg.Mo_Fruh", "Jorg.Mo_Nacht", "Zoe.Mo_Fruh.more"])
+        self.assertIn("SECOND: 3 elements, gain 29.25 with 1 of what is needed, 1.5 less than the best"
+                      ".\n  without: Zoë.Mo Früh\n  with:    Ann.Mo Früh\n",
+                      ran("second-best", self.text)[1])
+
+    def test_limits_and_changes_have_the_names_and_numbers_of_the_roster(self):
+        text = ran("one-more", self.text, "--format", "csv")[1]
+        self.assertEqual([(row["limit"], row["one more gains"], row["new"])
+                          for row in csv.DictReader(io.StringIO(text))],
+                         [("Mo Früh", "6.5", "Ann.Mo Früh"), ("Mo Nacht", "9", "Jörg.Mo Nacht"),
+                          ("Jörg", "0", ""), ("Zoë", "0", "")])
+        last = self.file("last.txt", "Jörg.Mo Nacht; Zoë.Mo Früh\nAnn.Mo_Fruh\n")
+        text = ran("few-changes", self.text, last, "--format", "csv")[1]
+        rows = list(csv.DictReader(io.StringIO(text)))
+        self.assertEqual([(row["changes"], row["gain"].split()[0], row["to"], row["dropped"])
+                          for row in rows],
+                         [("4", "30.75", "1.75", "Ann.Mo Früh; Jörg.Mo Nacht"),
+                          ("2", "27.25", "1.875", "Ann.Mo Früh"), ("0", "23.5", "", "")])
+
     def test_a_proof_is_told_in_the_numbers_of_the_roster(self):
         ran("limits", self.text, self.hours, "--proof", self.folder / "p")
         text = ran("limits", self.text, self.hours, "--verify", self.folder / "p")[1]

@@ -4,8 +4,8 @@ from __future__ import annotations
 from fractions import Fraction
 from typing import TYPE_CHECKING, Any
 
+from matbench.real_names import number_of
 from matbench.tables import Table, json_of
-from matbench.weights import pair_of
 
 if TYPE_CHECKING:
     from matbench.limits.problem import Joined, Limit
@@ -14,21 +14,11 @@ if TYPE_CHECKING:
     from matbench.limits.solving import Outcome
 
 
-def _number(value: Fraction) -> int | float:
-    """A number as JSON has it."""
-    return int(value) if value.denominator == 1 else float(value)
-
-
 def _spelled(gain: int, joined: Joined, real: RealNames | None) -> str:
     """A gain in the numbers of the tables where it has a unit, and else as the descriptions have
     it."""
     weight = joined.spelled(gain)
-    if real is None or real.unit is None:
-        return str(weight)
-    front, behind = pair_of(weight)
-    if not real.has_needs:
-        return str(_number(front / real.unit))
-    return f"{_number(behind / real.unit)} with {front} of what is needed"
+    return str(weight) if real is None else real.spelled(weight)
 
 
 def limits_table(outcome: Outcome) -> Table:
@@ -43,7 +33,7 @@ def limits_table(outcome: Outcome) -> Table:
 
 def _amount(value: int, limit: Limit) -> int | float:
     """An amount in the unit of the table."""
-    return _number(Fraction(value, limit.scale))
+    return number_of(Fraction(value, limit.scale))
 
 
 def _counted(count: int) -> str:
@@ -109,7 +99,7 @@ def _record(outcome: Outcome, real: RealNames | None) -> dict[str, Any]:
              "solves": outcome.solves,
              "seconds": round(outcome.seconds, 1)}
     if real is not None and plan is not None:
-        found["real"] = {"names": _names(outcome, real), "gain": _number(real.gain_of(plan)),
+        found["real"] = {"names": _names(outcome, real), "gain": number_of(real.gain_of(plan)),
                          "needed": real.needed_of(plan)}
     return found
 
@@ -119,7 +109,7 @@ def _plan_table(outcome: Outcome, real: RealNames | None) -> Table:
     if real is None:
         return Table(["element"], [[it] for it in outcome.names])
     return Table(["element", "name", "gain"],
-                 [[outcome.joined.names[it], real.names[it], _number(real.gains[it])]
+                 [[outcome.joined.names[it], real.names[it], number_of(real.gains[it])]
                   for it in outcome.plan or ()])
 
 

@@ -18,7 +18,7 @@ from matbench.roster.reading import read_request, with_last
 from matbench.roster.showing import json_text, second_text, spelled, told, wishes_table, words
 from matbench.roster.second import second_rosters
 from matbench.roster.solving import solve
-from matbench.roster.writing import write_request
+from matbench.roster.writing import MORE, write_request
 from matbench.tables import Table
 
 if TYPE_CHECKING:
@@ -112,6 +112,30 @@ def _description(written: Written) -> str:
     return written.texts[0]
 
 
+def _bare(name: str) -> str:
+    """The name of an element without what stands behind that of a second one."""
+    return name[:-len(MORE)] if name.endswith(MORE) else name
+
+
+def _is_otherwise(written: Written, request: Request) -> bool:
+    """Whether a description has other numbers than the tables, or other names but for spaces."""
+    wishes = [request.wishes[it.wish] for it in written.elements]
+    return written.scale > 1 or any(
+        _bare(it.name) != f"{wish.person}.{wish.shift.title}".replace(" ", "_")
+        for it, wish in zip(written.elements, wishes))
+
+
+def _write_description(request: Request, path: str | None) -> None:
+    """Writes the description, with a note where its names or numbers are others."""
+    written = write_request(request)
+    write(_description(written), path)
+    if _is_otherwise(written, request):
+        print("matbench roster: names are of ASCII in the description, and numbers whole. --proof"
+              " FOLDER writes it with elements.csv beside it: plan, second-best, one-more,"
+              " few-changes and limits then answer in the names and numbers of your tables",
+              file=sys.stderr)
+
+
 def _write_proof(folder: str, roster: Roster) -> None:
     """Writes the descriptions and the certificate, or the further limits and their proof."""
     try:
@@ -162,7 +186,7 @@ def main(given: Sequence[str]) -> int:
     options = _parser().parse_args(given)
     request = _request(options)
     if options.description:
-        write(_description(write_request(request)), options.output)
+        _write_description(request, options.output)
         return DONE
     with Progress("roster") as progress:
         roster = solve(request, options.size, progress, options.seconds)
