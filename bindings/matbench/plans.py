@@ -166,6 +166,19 @@ def _told_largest(best: Plan, largest: Plan, shown: Shown) -> str:
             f" {shown.names(largest.members)}.\n")
 
 
+def _told_cost(plan: Plan, wanted: Wanted) -> str:
+    """What the elements that must be in the plan, or must not, cost together, by one more call."""
+    if not wanted.must and not wanted.must_not:
+        return ""
+    free = Wanted(wanted.base, frozenset(), frozenset(), wanted.size)
+    other, shown = wanted.base.plan(free.solved(free.weights(*free.aims())).members), wanted.base.shown
+    words = " and ".join(word for word, own in (("--must", wanted.must),
+                                                ("--must-not", wanted.must_not)) if own)
+    loss = other.weight - plan.weight
+    cost = shown.cell(loss) if loss != 0 else "nothing"
+    return f"Without {words}: {shown.worth(other.weight)}, so this costs {cost}.\n"
+
+
 def _table(plan: Plan, base: Base) -> Table:
     """A row for each element, by its real name and gain if they are known."""
     places = [base.names.index(it) for it in plan.members]
@@ -196,7 +209,7 @@ def main(words: Sequence[str]) -> int:
     table, shown = _table(plan, base), base.shown
     if given.format == "table":
         write(f"BEST: {plan.size} elements, {shown.worth(plan.weight)}.\n"
-              f"{_told_largest(plan, largest, shown)}\n{table.text()}")
+              f"{_told_cost(plan, wanted)}{_told_largest(plan, largest, shown)}\n{table.text()}")
     elif given.format == "json":
         write(json_of({**real_record_of(plan, base), "largest": real_record_of(largest, base)}))
     else:

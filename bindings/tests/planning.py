@@ -321,6 +321,50 @@ class 1 Ada.Mon Ben.Mon\npartition 2\nclass 1 Ada.Mon\nclass 1 Ben.Mon\nend\n"""
             plans.best_plan(WISHES.replace("5 4 3 3", "5:3 4 3 900000000000:7"), must=["Ada.Mon"])
 
 
+class Costs(InFolder):
+    """What must and never, and least numbers, cost."""
+
+    WISHES = ("person,shift,gain,must,never\nAda,Mon,5,,\nBen,Mon,2,yes,\nAda,Tue,4,,\n"
+              "Cleo,Tue,3.5,,x\n")
+    LIMITS = "name,most,least\nMon,1,\nTue,1,1\nAda,1,\nBen,1,\nCleo,1,\n"
+
+    def roster(self, wishes, limits, *words):
+        """The output of a roster of two tables."""
+        status, text, _ = ran("roster", self.file("w.csv", wishes), self.file("l.csv", limits),
+                              *words)
+        self.assertEqual(status, 0)
+        return text
+
+    def test_of_a_roster_they_are_told_by_columns(self):
+        text = self.roster(self.WISHES, self.LIMITS)
+        self.assertIn("gain 6.\n", text)  # Ben on Monday and Ada on Tuesday; else 5 + 3.5
+        self.assertIn("\nWithout the columns must and never: gain 8.5, so they cost 2.5.\n"
+                      "Without the column least: gain 6, so it costs nothing.\n", text)
+        found = json.loads(self.roster(self.WISHES, self.LIMITS, "--format", "json"))["costs"]
+        self.assertEqual([(it["columns"], it["gain without"], it["costs"]) for it in found],
+                         [(["must", "never"], 8.5, 2.5), (["least"], 6, 0)])
+
+    def test_least_numbers_cost_a_gain(self):
+        wishes = "person,shift,gain\nAda,Mon,5\nAda,Tue,3\n"
+        text = self.roster(wishes, "name,most,least\nMon,1,\nTue,1,1\nAda,1,\n")
+        self.assertIn("\nWithout the column least: gain 5, so it costs 2.\n", text)
+        self.assertNotIn("Without", self.roster(wishes, "name,most\nMon,1\nTue,1\nAda,1\n"))
+
+    def test_more_of_what_is_needed_is_no_cost(self):
+        wishes = "person,shift,gain,must\nAda,Mon,5,yes\nAda,Tue,3,\n"
+        text = self.roster(wishes, "name,most,least\nMon,1,\nTue,1,1\nAda,1,\n")
+        self.assertIn("Without the column must: gain 3, with more of what else is needed.\n", text)
+
+    def test_of_a_plan_they_are_told_by_words(self):
+        path = self.file("w.txt", WISHES)
+        text = ran("plan", path, "--must", "Ben.Mon", "--must-not", "Ben.Tue")[1]
+        self.assertEqual(text.splitlines()[:2], [
+            "BEST: 1 elements, weight 4.",
+            "Without --must and --must-not: weight 8, so this costs 4."])
+        self.assertIn("this costs nothing.", ran("plan", path, "--must", "Ada.Mon")[1])
+        self.assertNotIn("Without", ran("plan", path)[1])
+
+
 def spans(arcs, root, places, is_both_ways):
     """Whether the root reaches all places along these arcs, as many as it needs at least."""
     if len(arcs) != places - 1:

@@ -44,7 +44,7 @@ def _elements(word: str, joined: Joined, called: Sequence[str]) -> list[int]:
 
 def _listed(sheet: Sheet, rows: Sequence[Row]) -> str:
     """The words of some lines, each with its line."""
-    words = [f"'{row['element'][:60]}' ({row.place.removeprefix(f'{sheet.name}: ')})"
+    words = [f"'{row['element'][:60]}' ({row.place[len(sheet.name) + 2:]})"
              for row in rows]
     more = f" and {len(words) - MOST_LISTED} more" if len(words) > MOST_LISTED else ""
     return ", ".join(words[:MOST_LISTED]) + more

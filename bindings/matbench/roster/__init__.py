@@ -13,6 +13,7 @@ InputFault, which says where, and what is taken.
 from __future__ import annotations
 
 from matbench.faults import InputFault
+from matbench.roster.costs import Cost, costs_of
 from matbench.roster.model import PersonLimit, Request, Shift, ShiftLimit, Wish
 from matbench.roster.picture import picture
 from matbench.roster.raising import Change, what_if
@@ -23,7 +24,7 @@ from matbench.roster.second import second_rosters
 from matbench.roster.solving import Roster, solve
 from matbench.roster.writing import write_request
 
-__all__ = ["Change", "InputFault", "PersonLimit", "Request", "Roster", "Shift", "ShiftLimit",
-           "Wish", "changes_table", "json_text", "people_table", "picture", "read_request",
-           "second_rosters", "shifts_table", "solve", "told", "what_if", "wishes_table", "with_last", "words",
-           "write_request"]
+__all__ = ["Change", "Cost", "InputFault", "PersonLimit", "Request", "Roster", "Shift",
+           "ShiftLimit", "Wish", "changes_table", "costs_of", "json_text", "people_table", "picture",
+           "read_request", "second_rosters", "shifts_table", "solve", "told", "what_if",
+           "wishes_table", "with_last", "words", "write_request"]

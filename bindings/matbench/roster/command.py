@@ -11,6 +11,7 @@ from matbench.faults import InputFault
 from matbench.limits.proofs import write_proof
 from matbench.limits.solving import SECONDS
 from matbench.progress import Progress
+from matbench.roster.costs import costs_of
 from matbench.roster.folders import elements_table, how_to_check
 from matbench.roster.picture import picture
 from matbench.roster.raising import what_if
@@ -25,6 +26,7 @@ if TYPE_CHECKING:
     import argparse
     from collections.abc import Sequence
 
+    from matbench.roster.costs import Cost
     from matbench.roster.model import Request
     from matbench.roster.raising import Change
     from matbench.roster.solving import Roster
@@ -165,14 +167,14 @@ def further_table(roster: Roster) -> Table:
 
 
 def _text(roster: Roster, changes: list[Change] | None, others: list[Roster] | None,
-          options: argparse.Namespace) -> str:
+          costs: list[Cost], options: argparse.Namespace) -> str:
     """What is printed."""
     if options.format == "csv":
         return wishes_table(roster).csv()
     if options.format == "json":
-        return json_text(roster, changes, others)
+        return json_text(roster, changes, others, costs)
     second = "" if others is None else "\n" + second_text(roster, others)
-    return words(roster, changes) + second + ("\n" + told(roster) if options.tell else "")
+    return words(roster, changes, costs) + second + ("\n" + told(roster) if options.tell else "")
 
 
 def _request(options: argparse.Namespace) -> Request:
@@ -192,7 +194,8 @@ def main(given: Sequence[str]) -> int:
         roster = solve(request, options.size, progress, options.seconds)
         changes = what_if(roster, progress) if options.one_more else None
         others = second_rosters(roster, progress) if options.second_best else None
-    write(_text(roster, changes, others, options), options.output)
+        costs = costs_of(roster, progress) if options.format != "csv" else []
+    write(_text(roster, changes, others, costs, options), options.output)
     if options.picture:
         write(picture(roster), options.picture)
     if options.proof:

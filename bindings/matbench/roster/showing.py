@@ -12,6 +12,7 @@ from matbench.weights import pair_of
 if TYPE_CHECKING:
     from collections.abc import Iterable, Sequence
 
+    from matbench.roster.costs import Cost
     from matbench.roster.model import Wish
     from matbench.roster.raising import Change
     from matbench.roster.solving import Roster
@@ -101,9 +102,22 @@ def changes_table(changes: Sequence[Change]) -> Table:
     return Table(heads, rows)
 
 
-def words(roster: Roster, changes: Sequence[Change] | None = None) -> str:
-    """The roster as text: what it is worth, and tables of people and of shifts."""
-    parts = ["\n".join(_head(roster)) + "\n", people_table(roster).text(),
+def _told_cost(cost: Cost) -> str:
+    """What columns of the tables cost."""
+    several = len(cost.columns) > 1
+    what = f"Without the column{'s' if several else ''} {' and '.join(cost.columns)}: gain" \
+        f" {spelled(cost.gain)}"
+    if cost.meets_more:
+        return f"{what}, with more of what else is needed."
+    loss = "nothing" if not cost.loss else spelled(cost.loss)
+    return f"{what}, so {'they cost' if several else 'it costs'} {loss}."
+
+
+def words(roster: Roster, changes: Sequence[Change] | None = None,
+          costs: Sequence[Cost] = ()) -> str:
+    """The roster as text: what it is worth, what columns of the tables cost, and tables of people
+    and of shifts."""
+    parts = ["\n".join([*_head(roster), *map(_told_cost, costs)]) + "\n", people_table(roster).text(),
              shifts_table(roster).text()]
     if changes is not None:
         parts.append(changes_table(changes).text())
@@ -162,13 +176,17 @@ def _second_record(roster: Roster, it: Roster) -> dict[str, Any]:
 
 
 def json_text(roster: Roster, changes: Sequence[Change] | None = None,
-              others: Sequence[Roster] | None = None) -> str:
+              others: Sequence[Roster] | None = None, costs: Sequence[Cost] = ()) -> str:
     """The roster as JSON."""
     found: dict[str, Any] = {
         "granted": len(roster.granted), "gain": number_of(roster.gain),
         "best": roster.is_best, "unmet": roster.unmet, "changes": roster.changes,
         "wishes": wishes_table(roster).records(), "people": people_table(roster).records(),
         "shifts": shifts_table(roster).records(), "notes": list(roster.request.notes)}
+    if costs:
+        found["costs"] = [{"columns": list(it.columns), "gain without": number_of(it.gain),
+                           "costs": number_of(it.loss), "meets more without": it.meets_more}
+                          for it in costs]
     if changes is not None:
         found["one more place"] = changes_table(changes).records()
     if others is not None:

@@ -21,6 +21,9 @@ if TYPE_CHECKING:
     from matbench.roster.model import Request, Shift, Wish
     from matbench.roster.writing import Written
 
+#: What is said of a wish that had to be granted, and is not.
+MUST = ": had to be granted"
+
 
 @dataclass(frozen=True)
 class Roster:
@@ -65,7 +68,7 @@ class Roster:
                     yield f"{shift.title}: {there} of {least}{' of ' + kind if kind else ''}"
         for place, it in enumerate(self.request.wishes):
             if it.must and place not in self.granted:
-                yield f"{it.person}, {it.shift.title}: had to be granted"
+                yield f"{it.person}, {it.shift.title}{MUST}"
 
     @property
     def changes(self) -> int | None:
