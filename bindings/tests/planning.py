@@ -365,6 +365,77 @@ class Costs(InFolder):
         self.assertNotIn("Without", ran("plan", path)[1])
 
 
+class LastRosters(InFolder):
+    """Changes against a last roster."""
+
+    PAIRS = [(person, shift) for person in ("Ada", "Ben", "Cleo") for shift in ("Sat", "Sun")]
+
+    def told(self, gains, last, *words):
+        """The JSON of a roster of these wishes, of which each person and each shift has one."""
+        pairs = dict(zip(self.PAIRS, gains))
+        wishes = "person,shift,gain\n" + "".join(f"{a},{b},{it}\n" for (a, b), it in pairs.items())
+        limits = "name,most\n" + "".join(f"{it},1\n" for it in ("Ada", "Ben", "Cleo", "Sat", "Sun"))
+        roster = "person,shift,granted\n" + "".join(f"{a},{b},yes\n" for a, b in last)
+        status, text, _ = ran(
+            "roster", self.file("w.csv", wishes), self.file("l.csv", limits), "--last",
+            self.file("r.csv", roster), *words)
+        self.assertEqual(status, 0)
+        return text
+
+    def best(self, gains, last, most):
+        """The greatest gain of a roster with at most so many changes, by trying all."""
+        worth = dict(zip(self.PAIRS, gains))
+        rosters = [set(it) for size in range(3) for it in itertools.combinations(self.PAIRS, size)
+                   if all(len({pair[side] for pair in it}) == size for side in (0, 1))]
+        return max((sum(worth[pair] for pair in it) for it in rosters if len(it ^ last) <= most),
+                   default=None)
+
+    def test_it_is_told_who_lost_and_who_got_what(self):
+        text = self.told([8, 1, 5, 7, 1, 1], [("Ben", "Sat")])
+        self.assertIn("Changes against the last roster: 3.\n  new:     Ada, Sat; Ben, Sun\n"
+                      "  dropped: Ben, Sat\n", text)
+        text = self.told([8, 1, 5, 7, 1, 1], [("Ada", "Sat"), ("Ben", "Sun")])
+        self.assertIn("Changes against the last roster: 0.\nThis is proved best", text)
+
+    def test_a_roster_of_few_changes_has_a_bound_that_none_exceeds(self):
+        numbers, seen = random.Random(7), set()
+        for _ in range(40):
+            gains = [numbers.randint(1, 9) for _ in self.PAIRS]
+            last = {("Ada", "Sat"), ("Ben", "Sun")} if numbers.random() < 0.7 else {("Ada", "Sat")}
+            most = numbers.randint(0, 4)
+            text = self.told(gains, last, "--changes", str(most))
+            told = json.loads(self.told(gains, last, "--changes", str(most), "--format", "json"))
+            best = self.best(gains, last, most)
+            self.assertLessEqual(told["changes"], most)
+            self.assertLessEqual(told["gain"], best)
+            self.assertEqual(told["best"], "This is proved best" in text)
+            seen.add(told["best"])
+            if told["best"]:
+                self.assertEqual(told["gain"], best)
+            else:
+                bound = int(text.partition("gains more than ")[2].partition(":")[0])
+                self.assertGreaterEqual(bound, best)
+        self.assertEqual(seen, {True, False})
+
+    def test_few_changes_go_from_the_best_roster_to_the_last_one(self):
+        found = json.loads(self.told([8, 1, 5, 7, 1, 2], [("Ben", "Sat"), ("Cleo", "Sun")],
+                                     "--few-changes", "--format", "json"))["few changes"]
+        self.assertEqual([(it["changes"], it["gain"]) for it in found], [(4, 15), (0, 7)])
+        self.assertEqual((found[0]["new"], found[0]["dropped"], found[0]["to"], found[1]["to"]),
+                         ("Ada, Sat; Ben, Sun", "Ben, Sat; Cleo, Sun", 2, None))
+
+    def test_what_is_not_taken_is_told(self):
+        tables = EXAMPLES / "wishes.csv", EXAMPLES / "limits.csv"
+        for words, told in ((["--changes", "2"], "by --last, or by a column last"),
+                            (["--changes", "2", "--proof", self.folder], "do not go with --changes"),
+                            (["--changes", "-1", "--last", self.file(
+                                "r.csv", "person,shift,granted\nAda,Saturday day,yes\n")],
+                             "each roster has more than -1 changes")):
+            status, text, notes = ran("roster", *tables, *words)
+            self.assertEqual((status, text), (2, ""))
+            self.assertIn(told, notes)
+
+
 def spans(arcs, root, places, is_both_ways):
     """Whether the root reaches all places along these arcs, as many as it needs at least."""
     if len(arcs) != places - 1:

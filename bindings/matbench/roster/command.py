@@ -11,6 +11,7 @@ from matbench.faults import InputFault
 from matbench.limits.proofs import write_proof
 from matbench.limits.solving import SECONDS
 from matbench.progress import Progress
+from matbench.roster.changing import changed_rosters, changed_table, of_at_most
 from matbench.roster.costs import costs_of
 from matbench.roster.folders import elements_table, how_to_check
 from matbench.roster.picture import picture
@@ -26,6 +27,7 @@ if TYPE_CHECKING:
     import argparse
     from collections.abc import Sequence
 
+    from matbench.roster.changing import Changed
     from matbench.roster.costs import Cost
     from matbench.roster.model import Request
     from matbench.roster.raising import Change
@@ -72,6 +74,7 @@ examples:
   python3 -m matbench roster wishes.csv limits.csv --one-more --picture roster.svg
   python3 -m matbench roster wishes.csv limits.csv --format csv --output roster.csv
   python3 -m matbench roster new_wishes.csv limits.csv --last roster.csv
+  python3 -m matbench roster new_wishes.csv limits.csv --last roster.csv --changes 2
   python3 -m matbench roster wishes.csv limits.csv --proof FOLDER
 """
 
@@ -85,7 +88,14 @@ def _parser() -> argparse.ArgumentParser:
     parser.add_argument("--seconds", type=float, default=SECONDS, metavar="T",
                         help=f"search for some T seconds at most, where a search is needed ({SECONDS:.0f})")
     parser.add_argument("--last", metavar="ROSTER",
-                        help="a roster of last time, as --format csv writes it")
+                        help="a roster of last time, as --format csv writes it: what changes is told,"
+                             " and of rosters of equal gain the one of fewest changes is taken")
+    parser.add_argument("--few-changes", action="store_true",
+                        help="tell too the rosters that are best where each change costs so much,"
+                             " up to the one of fewest changes (--last, or a column last)")
+    parser.add_argument("--changes", type=int, metavar="N",
+                        help="a roster with at most N changes against the last one, the best of those"
+                             " of --few-changes, and what no such roster gains more than")
     parser.add_argument("--one-more", action="store_true",
                         help="tell too what one more place in each limit brings, and who works then")
     parser.add_argument("--second-best", action="store_true",
@@ -167,13 +177,15 @@ def further_table(roster: Roster) -> Table:
 
 
 def _text(roster: Roster, changes: list[Change] | None, others: list[Roster] | None,
-          costs: list[Cost], options: argparse.Namespace) -> str:
+          costs: list[Cost], few: list[Changed] | None, options: argparse.Namespace) -> str:
     """What is printed."""
     if options.format == "csv":
         return wishes_table(roster).csv()
     if options.format == "json":
-        return json_text(roster, changes, others, costs)
+        return json_text(roster, changes, others, costs,
+                         None if few is None else changed_table(few).records())
     second = "" if others is None else "\n" + second_text(roster, others)
+    second += "" if few is None else "\n" + changed_table(few).text()
     return words(roster, changes, costs) + second + ("\n" + told(roster) if options.tell else "")
 
 
@@ -186,6 +198,10 @@ def _request(options: argparse.Namespace) -> Request:
 def main(given: Sequence[str]) -> int:
     """Runs the command, and answers its exit status."""
     options = _parser().parse_args(given)
+    if options.changes is not None and (options.one_more or options.second_best or options.tell
+                                        or options.proof):
+        raise InputFault("--one-more, --second-best, --tell and --proof are of the best roster: they"
+                         " do not go with --changes")
     request = _request(options)
     if options.description:
         _write_description(request, options.output)
@@ -195,7 +211,12 @@ def main(given: Sequence[str]) -> int:
         changes = what_if(roster, progress) if options.one_more else None
         others = second_rosters(roster, progress) if options.second_best else None
         costs = costs_of(roster, progress) if options.format != "csv" else []
-    write(_text(roster, changes, others, costs, options), options.output)
+        has_few = options.few_changes or options.changes is not None
+        few = changed_rosters(roster, progress) if has_few else None
+    if few is not None and options.changes is not None:
+        roster, costs = of_at_most(few, options.changes), []
+    write(_text(roster, changes, others, costs, few if options.few_changes else None, options),
+          options.output)
     if options.picture:
         write(picture(roster), options.picture)
     if options.proof:

@@ -36,15 +36,45 @@ def _head(roster: Roster) -> list[str]:
         lines.append("What is needed is met." if not roster.unmet else
                      "Not all that is needed can be met: " + "; ".join(roster.unmet) + ".")
     if roster.changes is not None:
-        lines.append(f"Changes against the last roster: {roster.changes}.")
+        lines += _told_changes(roster)
     if roster.outcome is not None and not roster.is_best:
         lines.append(_told_gap(roster))
+    if roster.most_changes is not None and not roster.is_best:
+        lines.append("It is not known whether a better one has as few." if roster.bound is None else
+                     f"No roster{_with_changes(roster)}{_and_needs(roster)} gains more than"
+                     f" {spelled(roster.bound)}: a better one than this may exist, or not.")
     if roster.is_best:
         what = "no roster" if roster.size is None else f"no roster of {roster.size} wishes"
+        what += _with_changes(roster)
         more = "meets more of what is needed, or as much for a greater gain" \
             if roster.request.has_demands else "gains more"
         lines.append(f"This is proved best: {what} within the limits {more}.")
     return lines
+
+
+def _with_changes(roster: Roster) -> str:
+    """That a roster has at most so many changes, if that was asked for."""
+    if roster.most_changes is None:
+        return ""
+    return f" with at most {roster.most_changes} change{'' if roster.most_changes == 1 else 's'}"
+
+
+def _and_needs(roster: Roster) -> str:
+    """Of which rosters a bound is, if something is needed."""
+    return " meets more of what is needed, or as much and" if roster.request.has_demands else ""
+
+
+def listed_changes(roster: Roster) -> tuple[str, str]:
+    """What is new against the last roster, and what is dropped, in cells."""
+    new, dropped = roster.changed
+    return _listed(new), _listed(dropped)
+
+
+def _told_changes(roster: Roster) -> list[str]:
+    """How many changes there are against the last roster, and which."""
+    new, dropped = listed_changes(roster)
+    return [f"Changes against the last roster: {roster.changes}.",
+            *([f"  new:     {new}"] if new else []), *([f"  dropped: {dropped}"] if dropped else [])]
 
 
 def _told_gap(roster: Roster) -> str:
@@ -176,11 +206,14 @@ def _second_record(roster: Roster, it: Roster) -> dict[str, Any]:
 
 
 def json_text(roster: Roster, changes: Sequence[Change] | None = None,
-              others: Sequence[Roster] | None = None, costs: Sequence[Cost] = ()) -> str:
+              others: Sequence[Roster] | None = None, costs: Sequence[Cost] = (),
+              few: Sequence[dict[str, Any]] | None = None) -> str:
     """The roster as JSON."""
     found: dict[str, Any] = {
         "granted": len(roster.granted), "gain": number_of(roster.gain),
         "best": roster.is_best, "unmet": roster.unmet, "changes": roster.changes,
+        **({"new": listed_changes(roster)[0], "dropped": listed_changes(roster)[1]}
+           if roster.request.has_last else {}),
         "wishes": wishes_table(roster).records(), "people": people_table(roster).records(),
         "shifts": shifts_table(roster).records(), "notes": list(roster.request.notes)}
     if costs:
@@ -189,6 +222,8 @@ def json_text(roster: Roster, changes: Sequence[Change] | None = None,
                           for it in costs]
     if changes is not None:
         found["one more place"] = changes_table(changes).records()
+    if few is not None:
+        found["few changes"] = list(few)
     if others is not None:
         found["second best"] = [_second_record(roster, it) for it in others]
     return json_of(found)

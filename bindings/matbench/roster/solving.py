@@ -30,7 +30,9 @@ class Roster:
     """A roster: the places of the granted wishes in the request. `is_best`: no roster that keeps
     the limits meets more of what is needed, or as much with a greater gain, or, if it was asked for
     one of some size, none of this size. `answers` proves it, or `outcome` where limits cross or
-    there are several descriptions; its bound is the proof's if `is_best` is false."""
+    there are several descriptions; its bound is the proof's if `is_best` is false. If it was asked for
+    one with at most `most_changes`, `bound` is what none of these gains more than, if that is
+    known."""
 
     request: Request = field(repr=False)
     written: Written = field(repr=False)
@@ -39,6 +41,8 @@ class Roster:
     size: int | None = None
     answers: tuple[Ladder, ...] = field(default=(), repr=False)
     outcome: Outcome | None = field(default=None, repr=False)
+    most_changes: int | None = None
+    bound: Fraction | None = None
 
     @property
     def gain(self) -> Fraction:
@@ -69,6 +73,13 @@ class Roster:
         for place, it in enumerate(self.request.wishes):
             if it.must and place not in self.granted:
                 yield f"{it.person}, {it.shift.title}{MUST}"
+
+    @property
+    def changed(self) -> tuple[list[Wish], list[Wish]]:
+        """The wishes that are granted and were not last time, and the other way."""
+        wishes, granted = self.request.wishes, set(self.granted)
+        return ([it for place, it in enumerate(wishes) if place in granted and not it.last],
+                [it for place, it in enumerate(wishes) if place not in granted and it.last])
 
     @property
     def changes(self) -> int | None:
