@@ -9,6 +9,7 @@
   python3 -m matbench few-changes DESC LAST    plans that change little of a last one
   python3 -m matbench links LINKS ROOT         a network with each link in both directions
   python3 -m matbench supplies NETWORK         the cheapest two supplies that share no link
+  python3 -m matbench failures NETWORK         how many links of a network may fail
   python3 -m matbench names DESC < ANSWER      an answer in the names of its description
 
 Each has --help, which says what it reads and writes. The exit status is 0, or 1 where what was
@@ -32,7 +33,8 @@ COMMANDS = {
     "truss": "matbench.truss.command", "plan": "matbench.plans",
     "second-best": "matbench.second_best", "one-more": "matbench.one_more",
     "few-changes": "matbench.few_changes",
-    "links": "matbench.links", "supplies": "matbench.supplies", "names": "matbench.names"}
+    "links": "matbench.links", "supplies": "matbench.supplies",
+    "failures": "matbench.failures", "names": "matbench.names"}
 
 
 def _command(name: str, words: Sequence[str]) -> int:

@@ -8,7 +8,9 @@ each of which is then directed away from the root.
 from __future__ import annotations
 
 import collections
-from dataclasses import dataclass
+import dataclasses
+from dataclasses import dataclass, field
+from fractions import Fraction
 from pathlib import Path
 from typing import TYPE_CHECKING, NamedTuple
 
@@ -16,30 +18,34 @@ from matbench.command_lines import DONE, NOT_SO, parser_of, write
 from matbench.commands import best, check, disjoint, intersect, trees
 from matbench.descriptions import MOST_MATROIDS
 from matbench.faults import InputFault
+from matbench.links import description_of_links, read_links
+from matbench.real_names import number_of
+from matbench.spreadsheets import read_sheet
 from matbench.tables import FORMS, Table, json_of
 from matbench.texts import write_folder
 from matbench.variants import canonical_lines
 from matbench.weights import pair_of, read_weight, weight_of
 
 if TYPE_CHECKING:
-    from collections.abc import Iterable, Sequence
+    from collections.abc import Iterable, Mapping, Sequence
 
     from matbench.answers import Answer, DisjointArborescences, Trees
     from matbench.descriptions import Problem
+    from matbench.spreadsheets import Source
     from matbench.weights import Weight
 
 ABOUT = """\
 The cheapest K supplies of a network together, which share nothing: along each of them the root
 reaches all places. They are proved to cost least.
 
-NETWORK is a description of the form `rooted`, as `python3 -m matbench links` writes it, with names
-or without. Where its arcs are both directions of links, X.there and X.back, a link is in one supply
+NETWORK is a table of links, with the columns link, from, to and cost, and ROOT one of its places; or
+a description of the form `rooted`, as `python3 -m matbench links` writes it, with names or without.
+Where its arcs are both directions of links, X.there and X.back, a link is in one supply
 at most; with --both-ways it may be in two, in opposite directions. Other arcs are one-way.
 """
 EXAMPLES = """\
 examples:
-  python3 -m matbench links pipes.csv Well > pipes.txt
-  python3 -m matbench supplies pipes.txt
+  python3 -m matbench supplies pipes.csv Well
   python3 -m matbench supplies pipes.txt --number 3 --both-ways --proof FOLDER
 
 The status is 0, or 1 where there are no such supplies, or 2 where what was given is not taken."""
@@ -69,13 +75,26 @@ class Arc(NamedTuple):
 @dataclass(frozen=True)
 class Network:
     """A network: its places, the root by its number, and its arcs. If it `is_both_ways`, they are
-    links, each of which is used in one direction. It `has_names` if the description has."""
+    links, each of which is used in one direction. It `has_names` if the description has. Of a table
+    `scale` is what its costs are multiplied by, and `called` has its names."""
 
     places: tuple[str, ...]
     root: int
     arcs: tuple[Arc, ...]
     is_both_ways: bool
     has_names: bool
+    scale: int = 1
+    called: Mapping[str, str] = field(default_factory=dict)
+
+    def real(self, name: str) -> str:
+        """What a link, an arc or a place is called in its table."""
+        return self.called.get(name, name)
+
+    def told_cost(self, cost: Weight | int) -> str:
+        """A cost in the unit of the table."""
+        if self.scale == 1:
+            return str(cost)
+        return str(number_of(Fraction(pair_of(cost)[0], self.scale)))
 
     @property
     def what(self) -> str:
@@ -142,6 +161,37 @@ def network_of(problem: Problem, is_each_arc: bool = False) -> Network:
     return Network(places, int(root), links or arcs, bool(links), described.elements is not None)
 
 
+def network_of_table(source: Source, root: str, is_each_arc: bool = False) -> Network:
+    """The network of a table of links. Raises InputFault."""
+    table, (text, _) = read_links(source), description_of_links(source, root)
+    called = {name: real for real, name in [*table.links.items(), *table.places.items()]}
+    called.update({f"{name}{way}": f"{real}{way}" for real, name in table.links.items()
+                   for way in (THERE, BACK)})
+    found = network_of(text, is_each_arc)
+    return dataclasses.replace(found, scale=table.scale, called=called)
+
+
+def _is_table(path: str) -> bool:
+    """Whether a file is a table of links."""
+    try:
+        return {"from", "to"} <= set(read_sheet(path).heads)
+    except InputFault:
+        return False
+
+
+def given_network(path: str, root: str | None, is_each_arc: bool) -> Network:
+    """The network of a file. Raises InputFault."""
+    if _is_table(path):
+        if root is None:
+            raise InputFault(f"{path} is a table of links: name the place from which all are to be"
+                             " reached behind it")
+        return network_of_table(path, root, is_each_arc)
+    if root is not None:
+        raise InputFault(f"{path} is no table with the columns link, from and to: a description names"
+                         " its root itself")
+    return network_of(Path(path), is_each_arc)
+
+
 def description_of_supplies(network: Network, number: int) -> str:
     """The description of which the rung of `number` times all places but one has the cheapest
     supplies."""
@@ -178,6 +228,23 @@ def _split_text(network: Network, chosen: Sequence[Arc]) -> str:
     word, cost = ("edge", "") if network.is_both_ways else ("arc", " 0")
     lines += [f"{word} {network.place(it.tail)} {network.place(it.head)}{cost}" for it in chosen]
     return "\n".join([*lines, "end", ""])
+
+
+def text_of_arcs(network: Network) -> str:
+    """The description of a network of arcs, for `disjoint`."""
+    return _split_text(network, network.arcs)
+
+
+def link_names(network: Network) -> dict[str, str]:
+    """The link of which each arc is a direction, by their names, or the arc itself."""
+    arcs = {it.name: it for it in network.arcs}
+    found = {it: it for it in arcs}
+    for it in network.arcs:
+        link = it.name[:-len(THERE)]
+        back = arcs.get(link + BACK) if it.name.endswith(THERE) and link else None
+        if back and (back.tail, back.head) == (it.head, it.tail):
+            found[it.name] = found[back.name] = link
+    return found
 
 
 def _directed(network: Network, links: Iterable[Arc]) -> tuple[Arc, ...]:
@@ -223,7 +290,8 @@ def cheapest_supplies(network: Network, number: int = 2) -> Supplies:
 def _table(network: Network, found: Supplies) -> Table:
     """A row for each arc of each supply."""
     return Table(("supply", network.what, "from", "to", "cost"), [
-        (number, it.name, network.places[it.tail], network.places[it.head], str(it.cost))
+        (number, network.real(it.name), network.real(network.places[it.tail]),
+         network.real(network.places[it.head]), network.told_cost(it.cost))
         for number, supply in enumerate(found.supplies or (), 1) for it in supply.arcs])
 
 
@@ -241,9 +309,9 @@ def _write_proof(network: Network, number: int, found: Supplies, folder: str) ->
 
 def _text(network: Network, number: int, found: Supplies) -> str:
     """The supplies for people."""
-    root = network.places[network.root]
+    root = network.real(network.places[network.root])
     return (f"BEST: {number} supplies of all {len(network.places)} places from {root}, cost"
-            f" {found.cost} together. They share no {network.what}.\n\n"
+            f" {network.told_cost(found.cost)} together. They share no {network.what}.\n\n"
             + _table(network, found).text())
 
 
@@ -251,6 +319,7 @@ def main(words: Sequence[str]) -> int:
     """Runs the command."""
     parser = parser_of("supplies", ABOUT, EXAMPLES)
     parser.add_argument("network", metavar="NETWORK")
+    parser.add_argument("root", metavar="ROOT", nargs="?", help="the root, of a table of links")
     parser.add_argument("--number", type=int, default=2, metavar="K", help="how many supplies (2)")
     parser.add_argument("--both-ways", action="store_true",
                         help="a link may be in two supplies, in opposite directions")
@@ -259,7 +328,7 @@ def main(words: Sequence[str]) -> int:
     parser.add_argument("--proof", metavar="FOLDER", help="write the certificates into this folder")
     parser.add_argument("--format", choices=FORMS, default="table", help="how it is printed")
     given = parser.parse_args(list(words))
-    network, number = network_of(Path(given.network), given.both_ways), given.number
+    network, number = given_network(given.network, given.root, given.both_ways), given.number
     if given.description:
         write(description_of_supplies(network, number))
         return DONE
@@ -270,7 +339,7 @@ def main(words: Sequence[str]) -> int:
         write(f"NONE: there are no {number} supplies that share no {network.what}.\n")
         return NOT_SO
     if given.format == "json":
-        write(json_of({"cost": str(found.cost), "arcs": _table(network, found).records()}))
+        write(json_of({"cost": network.told_cost(found.cost), "arcs": _table(network, found).records()}))
     else:
         write(_table(network, found).csv() if given.format == "csv" else
               _text(network, number, found))

@@ -98,6 +98,13 @@ class Tables(InFolder):
         many = self.file("m.csv", "limit,most,element\n" + "a,1,Eve\n" * 15)
         self.assertIn("(line 13) and 3 more\n", ran("limits", self.wishes, many)[2])
 
+    def test_an_element_in_two_descriptions_is_told_with_what_to_do(self):
+        table = self.file("l.csv", "limit,most,element\na,1,Ada.*\n")
+        status, text, notes = ran("limits", self.wishes, self.file("w2.txt", WISHES), table)
+        self.assertEqual((status, text), (2, ""))
+        self.assertIn("Ada.Mon: this element stands in two descriptions. Give the wishes a column"
+                      " week", notes)
+
     def test_a_table_of_heads_alone_has_no_limits(self):
         table = self.file("l.csv", "limit,most,element,amount\n")
         self.assertEqual(limits.read_limits(table, limits.Joined([WISHES])), [])

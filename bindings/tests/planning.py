@@ -502,6 +502,49 @@ class Supplied(InFolder):
             arcs = [(row["from"], row["to"], 0) for row in rows if row["supply"] == number]
             self.assertTrue(spans(arcs, "0", places, False))
 
+    def test_a_table_is_taken_with_its_names_and_decimals(self):
+        table = self.file("l.csv", "link;from;to;cost\nBrücke;Öl;B;4,5\nb;B;C;3\nc;Öl;C;2,5\n"
+                                   "d;Öl;C;1\ne;B;C;2\nf;Öl;B;1\n")
+        status, text, _ = ran("supplies", table, "Öl")
+        self.assertEqual((status, text.splitlines()[0]), (
+            0, "BEST: 2 supplies of all 3 places from Öl, cost 6.5 together. They share no link."))
+        self.assertIn("     1  c     Öl    C   2.5\n", text)
+        self.assertEqual(json.loads(ran("supplies", table, "Öl", "--format", "json")[1])["cost"], "6.5")
+        self.assertIn("all are multiplied by 10", ran("links", table, "Öl")[2])
+        for words, told in (([table], "name the place from which all are to be reached"),
+                            ([table, "Z"], "the places are Öl, B, C"),
+                            ([EXAMPLES / "supply.txt", "0"], "is no table with the columns link")):
+            status, text, notes = ran("supplies", *words)
+            self.assertEqual((status, text), (2, ""))
+            self.assertIn(told, notes)
+
+    def test_as_many_links_may_fail_as_no_cut_has(self):
+        numbers, seen = random.Random(8), set()
+        for _ in range(12):
+            links = [numbers.sample("ABCDE", 2) for _ in range(numbers.randint(4, 14))]
+            there = {"A", *(it for link in links for it in link)}
+            table = "link,from,to\n" + "".join(f"l{at},{a},{b}\n" for at, (a, b) in enumerate(links))
+            if not any("A" in it for it in links):
+                continue
+            cuts = [sum((a in inside) != (b in inside) for a, b in links)
+                    for size in range(1, len(there)) for inside in map(set, itertools.combinations(
+                        sorted(there - {"A"}), size))]
+            path, folder = self.file("l.csv", table), self.folder / "proof"
+            status, text, _ = ran("failures", path, "A", "--format", "json", "--proof", folder)
+            found = json.loads(text)
+            self.assertEqual((found["stands"], status), (min(cuts) - 1, int(min(cuts) < 2)))
+            crossing = [f"l{at}" for at, link in enumerate(links)
+                        if sum(it in found["places"] for it in link) == 1]
+            self.assertEqual((found["cut"], len(crossing)), (crossing, min(cuts)))
+            for name in ("yes", "no") if min(cuts) else ("no",):
+                self.assertTrue(matbench.check(folder / "network.txt", folder / f"{name}.answer"))
+            seen.add(min(cuts))
+        self.assertGreater(len(seen), 2)
+        self.assertEqual(ran("failures", EXAMPLES / "islands.csv", "Ash")[1],
+                         "STANDS the failure of any 1 link: Ash still reaches all 4 places.\n"
+                         "These 2 links cut off Inch, Holm: ferry, tunnel.\n")
+        self.assertIn("STANDS the failure of any 1 arc:", ran("failures", EXAMPLES / "supply.txt")[1])
+
     def test_the_recipe_makes_the_same_description(self):
         text = ran("supplies", EXAMPLES / "supply.txt", "--description")[1]
         self.assertEqual(text, (EXAMPLES / "two_supplies.txt").read_text())

@@ -49,7 +49,10 @@ class Joined:
         self.index = {name: place for place, name in enumerate(self.names)}
         if len(self.index) < self.n:
             twice = next(it for place, it in enumerate(self.names) if self.index[it] != place)
-            raise InputFault(f"{twice}: this element stands in two descriptions")
+            raise InputFault(f"{twice}: this element stands in two descriptions. Give the wishes a"
+                             " column week, with the weeks in one table: `roster` then joins them"
+                             " itself; or call elements otherwise in each description, as"
+                             f" {twice[:28]}.w2")
         self.starts = [sum(it.n for it in self.parts[:place]) for place in range(len(self.parts))]
         self.gains, self.base = _folded([it for part in self.parts for it in part.weights])
 
