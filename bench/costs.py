@@ -1,20 +1,15 @@
 #!/usr/bin/env python3
 """Tells what a change of each crate costs: the processor seconds of its proof, and of all that is
-proved again above it.
+proved again above it. It prints a table, a row for each crate.
 
-    bench/costs.py            prints the table
-    bench/costs.py --write    puts it into docs/DEVELOPING.md, in place of the one that is there
-    bench/costs.py --check    compares it with the one there; the last line is `N passed, M failed`
-
-The seconds are those of launcher/seconds.txt, and what stands on what is told by crates.txt. A
-change that leaves the library of its crate as it was, byte for byte, costs that crate alone. A
-crate that was not measured has no figures of its own, and counts for nothing.
+The seconds are those of launcher/seconds.txt, and crates.txt says which crate uses which. A change
+that leaves the library of its crate as it was, byte for byte, costs that crate alone. A crate that
+was not measured has no figures of its own, and counts for nothing.
 """
 import os
 import sys
 
 TOP = os.path.dirname(os.path.dirname(os.path.realpath(__file__)))
-DOCUMENT = 'docs/DEVELOPING.md'
 HEADS = ['crate', 'proof', 'tests', 'edits', 'crates above', 'proofs of it and of all above',
          'with tests and edits', 'longest chain of proofs']
 
@@ -84,41 +79,11 @@ def table():
     return ['| ' + ' | '.join(map(str, cells)) + ' |' for cells in lines]
 
 
-def place_in(document):
-    """Where the table's lines are among those of the document: from its heads to the last line with
-    a bar."""
-    begin = document.index(table()[0])
-    end = next((at for at in range(begin, len(document)) if not document[at].startswith('|')),
-               len(document))
-    return begin, end
-
-
 def main():
-    words = sys.argv[1:]
-    if words not in ([], ['--write'], ['--check']):
+    if sys.argv[1:]:
         print(__doc__, file=sys.stderr)
         return 64
-    if not words:
-        print(*table(), sep='\n')
-        return 0
-    path = os.path.join(TOP, DOCUMENT)
-    with open(path, encoding='utf-8') as it:
-        document = it.read().split('\n')
-    if table()[0] not in document:
-        print(f'{DOCUMENT} has no line of these heads: {table()[0]}')
-        print('0 passed, 1 failed')
-        return 1
-    begin, end = place_in(document)
-    if words == ['--check']:
-        differ = [line for line in table() + document[begin:end]
-                  if (line in table()) != (line in document[begin:end])]
-        print(*differ, sep='\n', end='\n' if differ else '')
-        is_same = table() == document[begin:end]
-        print('1 passed, 0 failed' if is_same else '0 passed, 1 failed')
-        return 0 if is_same else 1
-    document[begin:end] = table()
-    with open(path, 'w', encoding='utf-8') as it:
-        it.write('\n'.join(document))
+    print(*table(), sep='\n')
     return 0
 
 

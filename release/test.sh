@@ -93,7 +93,7 @@ run_quick() {
     run_by python3 "further limits" python3 tests/limits.py 10 1 "$program"
     run_by python3 "random problems" python3 tests/soak.py --problems 40 1 "$program"
     run_python_module
-    run_by python3 "what a change costs" python3 bench/costs.py --check
+    run_by python3 "the picture of the crates" python3 docs/crates.py --check
     run_by python3 "what planted bugs quote" python3 tests/planted.py --read
     run_by mandoc "the man page" mandoc -Tlint -Wwarning docs/matbench.1
 }
@@ -137,7 +137,7 @@ run_all() {
     run_by python3 "further limits" python3 tests/limits.py 150 1 "$program"
     run_by_highs
     run_by mandoc "the man page" mandoc -Tlint docs/matbench.1
-    run_by python3 "what a change costs" python3 bench/costs.py --check
+    run_by python3 "the picture of the crates" python3 docs/crates.py --check
     run_shellcheck
     run "the launcher" env --default-signal=INT tests/launcher_test.sh
     run_reports

@@ -52,7 +52,7 @@ def written(path, text):
 
 
 def try_costs(folder):
-    """The table of the small crates, and what --check says of documents."""
+    """The table of the small crates."""
     os.makedirs(f'{folder}/bench')
     shutil.copy(f'{TOP}/bench/costs.py', f'{folder}/bench/')
     written(f'{folder}/crates.txt', CRATES)
@@ -60,19 +60,7 @@ def try_costs(folder):
     status, told = costs(folder)
     heads = ''.join(told.splitlines(keepends=True)[:2])
     tell('the table', (status, told.removeprefix(heads)), (0, ROWS))
-    document = f'{folder}/docs/DEVELOPING.md'
-    written(document, f'Before.\n\n{heads}{ROWS}\nBehind.\n')
-    tell('the document has it', costs(folder, '--check')[0], 0)
-    written(document, f'Before.\n\n{heads}{ROWS.replace("172", "171")}\nBehind.\n')
-    status, told = costs(folder, '--check')
-    tell('another figure', (status, told.splitlines()[-1]), (1, '0 passed, 1 failed'))
-    written(document, f'Before.\n\n{heads}{"".join(ROWS.splitlines(keepends=True)[1:])}\nBehind.\n')
-    tell('a row less', costs(folder, '--check')[0], 1)
-    costs(folder, '--write')
-    with open(document, encoding='utf-8') as it:
-        tell('written anew', it.read(), f'Before.\n\n{heads}{ROWS}\nBehind.\n')
-    written(document, 'Nothing.\n')
-    tell('a document without a table', costs(folder, '--check')[0], 1)
+    tell('a word that it does not know', costs(folder, '--other')[0], 64)
 
 
 def try_seconds(folder):
