@@ -1,9 +1,9 @@
 """python3 tests/shown.py [PROGRAM]: runs every command that the documents show, and compares every
 output that they show byte for byte.
 
-The documents are README.md, examples/README.md, docs/FORMATS.md, docs/COOKBOOK.md, docs/MANY.md and
-docs/CALLING.md, and the program is crates/mat_main/out/mat_main unless another is named. In the
-documents
+The documents are README.md, examples/README.md, docs/FORMATS.md, docs/REPORTS.md, docs/COOKBOOK.md,
+docs/MANY.md and docs/CALLING.md, and the program is crates/mat_main/out/mat_main unless another is
+named. In the documents
 - a block marked `console` has commands, each behind '$ ', and below each all that it prints; each
   ends with the status 0;
 - a block below the comment '<!-- printed by: COMMAND -->' is what the command prints;
@@ -34,8 +34,8 @@ import sys
 import tempfile
 
 TOP = os.path.dirname(os.path.dirname(os.path.abspath(__file__)))
-DOCUMENTS = ("README.md", "examples/README.md", "docs/FORMATS.md", "docs/COOKBOOK.md",
-             "docs/MANY.md", "docs/CALLING.md")
+DOCUMENTS = ("README.md", "examples/README.md", "docs/FORMATS.md", "docs/REPORTS.md",
+             "docs/COOKBOOK.md", "docs/MANY.md", "docs/CALLING.md")
 OPEN_WORD = re.compile(r"(?<![\w.])(?:FILE|CERT|WIT|LIST|RUNG|KIND|SIZE|SEED|K|W)(?!\w)")
 COUNTS = {"commands": 0, "outputs": 0, "blocks not run": 0, "quotes": 0, "lines of files": 0,
           "links": 0, "wrong": 0}
