@@ -1,7 +1,7 @@
 // Plans beside the best one of a sheet: what one more place in a limit brings, the second best plan, and what changed against the last one.
 import { compareWeights } from "./answers.mjs";
 import { headsOf, made } from "./grid.mjs";
-import { spelled } from "./tables.mjs";
+import { spelled, TableFault } from "./tables.mjs";
 
 /** The names that one list has and another has not. */
 function without(names, others) {
@@ -17,28 +17,46 @@ export function changesOf(before, now) {
   return `Against the plan before: ${parts.map(([names, what]) => `${what}: ${names.join("; ")}`).join(". ")}.`;
 }
 
-/** What one more place brings in each limit in which it brings something, the greatest first, by one solve each. */
+/**
+ * What one more place brings in each limit in which it brings something, the greatest first, by one solve each; and the limits in which it cannot be
+ * tried, since limits would cross then: { found, untried }.
+ */
 export async function placesOf(kind, plan, calls, tell) {
-  const [cases, found] = [kind.raisedOf(plan.request), []];
+  const [cases, found, untried] = [kind.raisedOf(plan.request), [], []];
   for (const [number, { what, most, request }] of cases.entries()) {
     tell(`One more place: ${number} of ${cases.length} limits are tried.`);
-    const other = await kind.solveOnly(request, calls);
+    const other = await solvedUnlessFaulty(kind, request, calls);
+    if (!other) {
+      untried.push(what);
+      continue;
+    }
     const [gain, met] = [other.gain - plan.gain, other.met - plan.met];
     if (gain !== 0n || met !== 0) found.push({ what, most, gain, met });
   }
-  return found.sort((a, b) => b.met - a.met || (b.gain > a.gain ? 1 : b.gain < a.gain ? -1 : 0));
+  return { found: found.sort((a, b) => b.met - a.met || (b.gain > a.gain ? 1 : b.gain < a.gain ? -1 : 0)), untried };
+}
+
+/** The plan of a request, or null where it cannot be written as one description. */
+async function solvedUnlessFaulty(kind, request, calls) {
+  try {
+    return await kind.solveOnly(request, calls);
+  } catch (error) {
+    if (error instanceof TableFault) return null;
+    throw error;
+  }
 }
 
 /** Fills a table with what one more place brings, and answers what is said of it. */
-export function fillMorePlaces(table, found) {
+export function fillMorePlaces(table, { found, untried }) {
   table.replaceChildren();
-  if (found.length === 0) return "One more place in any single limit brings nothing.";
+  const but = untried.length > 0 ? ` but ${untried.slice(0, 3).join(", ")}${untried.length > 3 ? " .." : ""}: limits would cross there` : "";
+  if (found.length === 0) return `One more place brings nothing in any limit${but}.`;
   const needs = found.some((it) => it.met !== 0);
   const cellsOf = ({ what, most, met, gain }) => [what, String(most), ...(needs ? [String(met)] : []), spelled(gain)];
   const rows = found.map((it) => made("tr", {}, ...cellsOf(it).map((textContent) => made("td", { textContent }))));
   const heads = headsOf("one more place in", "most now", ...(needs ? ["more needs met"] : []), "more gain");
   table.append(made("thead", {}, heads), made("tbody", {}, ...rows));
-  return "One more place is tried in each limit.";
+  return `One more place is tried in each limit${but}.`;
 }
 
 /**

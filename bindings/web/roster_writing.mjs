@@ -163,7 +163,7 @@ export function writeRequest(request) {
     const names = crossing.slice(0, 3).map((it) => it.name);
     throw new TableFault(
       `${crossing.length} limits cross the others (${names.join("; ")}), as nights cross days: the page cannot keep both. ` +
-        "Take these numbers out; or take those for a week out, and let a day have as many as there are in all. The Python package keeps both.",
+        "Take these numbers out; or take those for a week out, and let a day have more than there are in all. The Python package keeps both.",
     );
   }
   const names = elements.map((it) => it.name);
