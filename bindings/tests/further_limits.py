@@ -205,6 +205,11 @@ class RealNames(InFolder):
                          [("4", "30.75", "1.75", "Ann.Mo Früh; Jörg.Mo Nacht"),
                           ("2", "27.25", "1.875", "Ann.Mo Früh"), ("0", "23.5", "", "")])
 
+    def test_a_pattern_is_of_both_elements_of_a_wish(self):
+        table = self.file("a.csv", "limit,most,element\nMorning,0,*Fruh\n")
+        text = ran("limits", self.text, table)[1]
+        self.assertEqual(text.splitlines()[3:5], ["  Zoë.Mo Nacht", ""])
+
     def test_a_proof_is_told_in_the_numbers_of_the_roster(self):
         ran("limits", self.text, self.hours, "--proof", self.folder / "p")
         text = ran("limits", self.text, self.hours, "--verify", self.folder / "p")[1]

@@ -16,6 +16,7 @@ import random
 import sys
 import tempfile
 import unittest
+import unittest.mock
 from fractions import Fraction
 
 HERE = pathlib.Path(__file__).resolve().parent
@@ -29,6 +30,7 @@ import matbench  # noqa: E402
 from matbench import __main__ as commands  # noqa: E402
 from matbench import few_changes, one_more, plans, second_best, truss  # noqa: E402
 from matbench.faults import InputFault  # noqa: E402
+from matbench.roster import raising  # noqa: E402
 
 SQUARE = "bar,from,to\na,P,Q\nb,Q,R\nc,R,S\nd,S,P\n"
 WISHES = """matroids 2
@@ -158,6 +160,11 @@ class Trusses(InFolder):
                                      " hinge counts as 5 bars.")):
             with self.subTest(told=told):
                 self.assertEqual(ran("truss", *words)[1].splitlines()[1], told)
+
+    def test_how_many_bars_are_independent_is_told_beside_those_that_are_needed(self):
+        text = ran("truss", EXAMPLES / "squares.csv")[1]
+        self.assertEqual(text.splitlines()[0], "7 joints, 10 bars: 11 independent bars are needed,"
+                                               " and 10 independent ones are there.")
 
     def test_what_is_rigid_has_the_caveat_of_special_positions(self):
         caveat = "it may move all the same: this is not tried."
@@ -363,6 +370,35 @@ class Costs(InFolder):
             "Without --must and --must-not: weight 8, so this costs 4."])
         self.assertIn("this costs nothing.", ran("plan", path, "--must", "Ada.Mon")[1])
         self.assertNotIn("Without", ran("plan", path)[1])
+
+
+class Hours(InFolder):
+    """Rosters with hours."""
+
+    def setUp(self):
+        super().setUp()
+        self.tables = [
+            self.file("w.csv", "person,shift,gain,hours\nAda,Sat,5,8\nAda,Sun,4,8\nJörg,Sat,\"3,5\",8\n"),
+            self.file("l.csv", "name,most,hours\nSat,1,\nSun,1,\nAda,2,12\nJörg,1,\n")]
+
+    def test_the_reason_is_told_in_the_names_of_the_tables(self):
+        status, text, _ = ran("roster", *self.tables, "--tell")
+        self.assertEqual(status, 0)
+        reason = text[text.index("Why no roster gains more"):]
+        self.assertIn("Gains here are 10 times those of the tables.", reason)
+        self.assertIn("So no plan that keeps all limits gains more than 75.", reason)
+        self.assertEqual(reason.count("So no plan"), 1)
+        self.assertIn("with a point before the decimals.", text)
+
+    def test_each_search_of_one_more_place_has_the_seconds_that_are_given(self):
+        asked, solve = [], raising.solve
+
+        def noted(*words, **more):
+            asked.append(more["seconds"])
+            return solve(*words, **more)
+        with unittest.mock.patch.object(raising, "solve", noted):
+            self.assertEqual(ran("roster", *self.tables, "--one-more", "--seconds", "7")[0], 0)
+        self.assertEqual(set(asked), {7.0})
 
 
 class LastRosters(InFolder):

@@ -31,7 +31,8 @@ limits, and each has up to 500 elements: so weeks are joined. LIMITS is a table 
   element   an element, or a pattern such as Ada.*night
   amount    what the element counts, from 0; 1 where the cell is empty
 Of all elements of a limit that are chosen the amounts add up to at most `most`. A pattern that fits
-none counts nothing, and is told. For example:
+a wish X fits its copies X.must, X.may and X.more too. One that fits none counts nothing, and is
+told; where none of the table fits, it is refused. For example:
   limit,most,element,amount
   nights of Ada,2,Ada.*night,
   hours of Ada,40,Ada.*early,8

@@ -103,7 +103,7 @@ def write_proof(outcome: Outcome, folder: str, progress: Progress | None = None)
             progress.tell(f"{number} of {len(outcome.leaves)} parts of the proof written")
     write(_rows(["leaf", "path", "prices"], rows), f"{folder}/leaves.csv")
     write("".join(f"{name}\n" for name in outcome.names), f"{folder}/plan.txt")
-    write("\n".join(_story(outcome)) + "\n", f"{folder}/bound.md")
+    write("\n".join(story_of(outcome)) + "\n", f"{folder}/bound.md")
 
 
 def _write_leaf(outcome: Outcome, leaf: Leaf, number: int, folder: str) -> None:
@@ -116,7 +116,7 @@ def _write_leaf(outcome: Outcome, leaf: Leaf, number: int, folder: str) -> None:
         write(solved(text), f"{folder}/leaf{number}_{part}.answer")
 
 
-def _story(outcome: Outcome) -> Iterator[str]:
+def story_of(outcome: Outcome) -> Iterator[str]:
     """What is proved, as lines."""
     joined = outcome.joined
     yield f"size {'all' if outcome.size is None else outcome.size}"

@@ -9,6 +9,7 @@ from typing import TYPE_CHECKING
 from matbench.faults import InputFault
 from matbench.limits.problem import Limit
 from matbench.spreadsheets import numbers_of, read_sheet, scale_of
+from matbench.variants import wish_of
 from matbench.writing import MOST_WEIGHT
 
 if TYPE_CHECKING:
@@ -30,14 +31,15 @@ _PATTERN = re.compile(r"[*?\[]")
 
 def _elements(word: str, joined: Joined, called: Sequence[str]) -> list[int]:
     """The elements that a word names, or all that a pattern fits, by their names or by what they
-    are `called`."""
+    are `called`. A pattern that fits a wish fits its copies, as X.more of X."""
     plain = word.replace(" ", "_")
     if plain in joined.index:
         return [joined.index[plain]]
     same = [place for place, name in enumerate(called) if name == word]
     if same or not _PATTERN.search(word):
         return same
-    fits = {place for place, name in enumerate(joined.names) if fnmatch.fnmatchcase(name, plain)}
+    fits = {place for place, name in enumerate(joined.names)
+            if fnmatch.fnmatchcase(name, plain) or fnmatch.fnmatchcase(wish_of(name), plain)}
     fits |= {place for place, name in enumerate(called) if fnmatch.fnmatchcase(name, word)}
     return sorted(fits)
 

@@ -86,7 +86,8 @@ def _parser() -> argparse.ArgumentParser:
     parser.add_argument("limits", metavar="LIMITS")
     parser.add_argument("--size", type=int, metavar="K", help="grant exactly K wishes")
     parser.add_argument("--seconds", type=float, default=SECONDS, metavar="T",
-                        help=f"search for some T seconds at most, where a search is needed ({SECONDS:.0f})")
+                        help="search for some T seconds at most, where a search is needed"
+                             f" ({SECONDS:.0f}); with --one-more so long for each limit")
     parser.add_argument("--last", metavar="ROSTER",
                         help="a roster of last time, as --format csv writes it: what changes is told,"
                              " and of rosters of equal gain the one of fewest changes is taken")
@@ -208,7 +209,7 @@ def main(given: Sequence[str]) -> int:
         return DONE
     with Progress("roster") as progress:
         roster = solve(request, options.size, progress, options.seconds)
-        changes = what_if(roster, progress) if options.one_more else None
+        changes = what_if(roster, progress, options.seconds) if options.one_more else None
         others = second_rosters(roster, progress) if options.second_best else None
         costs = costs_of(roster, progress) if options.format != "csv" else []
         has_few = options.few_changes or options.changes is not None

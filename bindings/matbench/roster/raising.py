@@ -12,6 +12,7 @@ import dataclasses
 from dataclasses import dataclass
 from typing import TYPE_CHECKING, NamedTuple
 
+from matbench.limits.solving import SECONDS
 from matbench.roster.solving import solve
 
 if TYPE_CHECKING:
@@ -100,11 +101,11 @@ def _raised(roster: Roster) -> Iterator[_Raised]:
         yield from _of_person(roster, person, own)
 
 
-def _change(roster: Roster, case: _Raised) -> Change:
-    """What one more place in a limit brings."""
+def _change(roster: Roster, case: _Raised, seconds: float) -> Change:
+    """What one more place in a limit brings, by a search of some seconds if one is needed."""
     if roster.answers and not case.is_full:
         return Change(case.what, case.most, 0 * roster.gain, 0)
-    other = solve(case.request, roster.size)
+    other = solve(case.request, roster.size, seconds=seconds)
     gain, met = other.gain - roster.gain, _met(other) - _met(roster)
     is_proved = roster.is_best and other.is_best
     if not gain and not met:
@@ -114,12 +115,14 @@ def _change(roster: Roster, case: _Raised) -> Change:
                   tuple(wishes[it] for it in sorted(one - two)), is_proved)
 
 
-def what_if(roster: Roster, progress: Progress | None = None) -> list[Change]:
-    """What one more place in each limit brings. The greatest comes first, and those that bring
+def what_if(roster: Roster, progress: Progress | None = None,
+            seconds: float = SECONDS) -> list[Change]:
+    """What one more place in each limit brings. Where a search is needed, that of each limit takes
+    some seconds at most. The greatest comes first, and those that bring
     nothing last."""
     cases, found = list(_raised(roster)), []
     for number, case in enumerate(cases):
         if progress:
             progress.tell(f"one more place: {number} of {len(cases)} limits tried")
-        found.append(_change(roster, case))
+        found.append(_change(roster, case, seconds))
     return sorted(found, key=lambda it: (-it.met, -it.gain))

@@ -5,6 +5,7 @@ import re
 from fractions import Fraction
 from typing import TYPE_CHECKING, Any
 
+from matbench.limits.proofs import story_of
 from matbench.roster.writing import MORE
 from matbench.tables import Table, json_of
 from matbench.weights import pair_of
@@ -16,6 +17,9 @@ if TYPE_CHECKING:
     from matbench.roster.model import Wish
     from matbench.roster.raising import Change
     from matbench.roster.solving import Roster
+
+#: Of the reason why no roster gains more at most so many lines are told.
+MOST_LINES = 20
 
 
 def number_of(value: Fraction) -> int | float:
@@ -237,10 +241,21 @@ def told(roster: Roster) -> str:
         wish = roster.request.wishes[it.wish]
         beyond = ", beyond the least" if it.name.endswith(MORE) else ""
         real[it.name] = f"[{wish.person}, {wish.shift.title}{beyond}]"
-    if not roster.answers:
-        return ("The proof is a sum over charged descriptions: --proof FOLDER writes it, with the"
-                " reason in bound.md.\n")
-    text = "\n".join(answer.told() for answer in roster.answers)
+    if roster.outcome is not None:
+        lines = [it for it in story_of(roster.outcome) if it and not it.startswith("size ")]
+        if len(lines) > MOST_LINES:
+            left = f".. ({len(lines) - MOST_LINES} lines more)"
+            lines = [*lines[:MOST_LINES - 1], left, lines[-1]]
+        scale = roster.written.scale
+        unit = f" Gains here are {scale:,} times those of the tables." if scale > 1 else ""
+        text = "\n".join(["Why no roster gains more: each further limit gets a price, and each wish is"
+                          f" charged what it counts.{unit}", *lines,
+                          "Best rungs are those of the descriptions with these weights. --proof FOLDER"
+                          " writes them with their certificates.", ""])
+    elif roster.answers:
+        text = "\n".join(answer.told() for answer in roster.answers)
+    else:
+        return ""
     return re.sub(r"[!-~]+", lambda it: _real_word(it[0], real), text)
 
 
@@ -248,5 +263,6 @@ def _real_word(word: str, real: dict[str, str]) -> str:
     """A word of a text, with the real name for an element, also where a sign stands behind it."""
     if word in real:
         return real[word]
-    bare = word.rstrip(".,;:)")
-    return real[bare] + word[len(bare):] if bare in real else word
+    front = word[:len(word) - len(word.lstrip("(+-"))]
+    bare = word[len(front):].rstrip(".,;:)")
+    return front + real[bare] + word[len(front + bare):] if bare in real else word

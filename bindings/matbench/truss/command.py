@@ -92,8 +92,8 @@ def _counts(found: Analysis) -> str:
     counts["pin"] = max(0, structure.ground_bars - 1) // 2 - counts["roller"]
     vertices = _plural(len(ends), "joint" if structure.sparsity == JOINTS else "body")
     sizes = [vertices, *(_plural(count, kind) for kind, count in counts.items() if count)]
-    return (f"{', '.join(sizes)}: {found.needed} independent bars are needed, and there are"
-            f" {found.rank}.\n"
+    return (f"{', '.join(sizes)}: {found.needed} independent bars are needed, and {found.rank}"
+            " independent ones are there.\n"
             f"{found.needed} is {vertices} x {structure.sparsity.each}"
             f"{_less(structure, counts)}.\n")
 
