@@ -70,8 +70,8 @@ WORDS = {
     'mat_reports': 'test of reports',
 }
 
-RULE = ('A crate uses only crates of floors below, and of its own floor those to its left or in the '
-        'row below.')
+RULE = ('A crate uses only crates of floors below, and of its own floor those to its left or in '
+        'the row below.')
 
 # Each way: its name, its colour, and its steps: a crate, and what happens there.
 WAYS = [
