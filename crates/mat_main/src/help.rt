@@ -9,7 +9,7 @@ pub(crate) const TEXTS: Texts<'static> = Texts {
 };
 
 /// The line of `--version`.
-pub(crate) const VERSION: &str = "matbench 1.3.0\n";
+pub(crate) const VERSION: &str = "matbench 1.4.0\n";
 
 /// The text of `--help`, of lines of at most 100 columns. The script `matbench` prints the lines between the two quotation marks where the
 /// program is not built, so none of them has such a mark or a backslash.

@@ -124,7 +124,7 @@ mod tests {
 
     #[test]
     fn version_is_a_name_and_a_number(rt: HostRuntime) {
-        assert_eq!(rt; TEXTS.version, "matbench 1.3.0\n");
+        assert_eq!(rt; TEXTS.version, "matbench 1.4.0\n");
     }
 
     #[test]
