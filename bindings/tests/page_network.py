@@ -1,4 +1,6 @@
 """Tests of the page's sheets for networks and for frames."""
+import json
+
 from page_sheet import SheetPage
 
 #: A square with a road across. The cheapest tree has the three cheapest links that close no ring.
@@ -48,6 +50,37 @@ class Network(SheetPage):
         self.assertEqual(found, ["the link a stands twice, first in line 2", "there is no to",
                                  "cost is a whole number from 0, and not 'x'"])
 
+    def test_it_is_kept_and_in_a_link(self):
+        self.show_example()
+        self.type_into("Owner 0, at most", "0")
+        link = self.load_again_as_kept()
+        self.plan()
+        told = self.said("told")
+        self.assertNotIn("gain 29.", told)
+        self.open_in_new_tab(link)
+        self.plan()
+        self.assertEqual(self.said("told"), told)
+
+    def test_choices_are_kept_and_in_a_link(self):
+        self.show_example(1)
+        self.choose("task", "trees")
+        link = self.load_again_as_kept()
+        self.assertEqual(self.said("task"), "trees")
+        self.open_in_new_tab(link)
+        self.plan()
+        self.assertTrue(self.said("told").startswith("2 networks that share no link"))
+
+    def test_failures_can_be_stopped(self):
+        links = "".join(f"L{one}.{other},T{one},T{other}\n"
+                        for one in range(22) for other in range(one))
+        self.write_cells(f"link,from,to\n{links}")
+        self.choose("task", "failures")
+        self.browser.run(f"for (const it of ['plan', 'stop'])"
+                         f" document.querySelector('{self.part('')}' + it).click()")
+        self.wait_for(self.part("stop"), "it.hidden")
+        self.assertEqual(self.said("state"), "Stopped.")
+        self.assertFalse(self.of(self.part("result"), "it.checkVisibility()"))
+
     def test_hostile_cells_run_nothing(self):
         self.hold_to_hostile_cells("link,from,to\n<img src=x onerror=ran=1>,"
                                    "<script>ran=1</script>,__proto__\n")
@@ -72,3 +105,32 @@ class Frame(SheetPage):
             self.plan()
             self.assertIn("rigid", self.said("told"))
         self.hold_to_windows()
+
+    def test_it_is_kept_and_in_a_link(self):
+        self.show_example(2)
+        self.plan()
+        told = self.said("told")
+        link = self.load_again_as_kept()
+        self.assertEqual(self.said("space"), "space")
+        self.open_in_new_tab(link)
+        self.plan()
+        self.assertEqual(self.said("told"), told)
+
+    def test_refusals_are_marked(self):
+        self.write_cells("bar,from,to\na,P,Q\na,Q,\n")
+        found = self.of_all("#frame td.faulty .why", "it.textContent")
+        self.assertEqual(len(found), 2, found)
+        self.plan()
+        self.assertEqual(self.said("state"), "Something is not understood yet: it is marked.")
+        self.write_cells("bar,to\na,P\n")
+        self.assertNotEqual(self.said("cells-fault"), "")
+
+    def test_hostile_cells_and_links_run_nothing(self):
+        hostile = "bar,from,to\n<img src=x onerror=ran=1>,<script>ran=1</script>,__proto__\n"
+        self.hold_to_hostile_cells(hostile)
+        limits = [["<svg onload=ran=1>\0\0most", "<img src=x onerror=ran=1>"]]
+        for state in ({"cells": hostile, "limits": limits, "choices": {"space": "<script>"}},
+                      {"cells": {"toString": 1}, "limits": 5}, [], None):
+            self.open_in_link(json.dumps(state))
+            self.assertTrue(self.browser.run("globalThis.ran === undefined"))
+        self.browser.forget()

@@ -16,6 +16,12 @@ HOSTILE = ("person,shift,gain\n<img src=x onerror=ran=1>,<script>ran=1</script>,
            "\"\"\"'><svg onload=ran=1>\",=ran(1),2\nconstructor,__proto__,1\n")
 
 
+def many_wishes(people, shifts):
+    """A sheet in which each of so many people wishes each of so many shifts."""
+    wishes = [f"P{it % people},S{it // people},{it * 7 % 17}\n" for it in range(people * shifts)]
+    return "".join(["person,shift,gain\n", *wishes])
+
+
 class Roster(SheetPage):
     """The sheet of a roster."""
 
@@ -223,8 +229,7 @@ class Roster(SheetPage):
                          "The second best plan: it meets 1 less of what is needed, and gains 5 less.")
 
     def test_trying_places_can_be_stopped(self):
-        wishes = "".join(f"P{it % 25},S{it // 25},{it % 17}\n" for it in range(450))
-        self.write_cells("person,shift,gain\n" + wishes)
+        self.write_cells(many_wishes(25, 18))
         self.plan()
         self.click("one-more")
         self.wait_for("#roster-state", "it.textContent.startsWith('One more place: 1 of')")
@@ -232,6 +237,105 @@ class Roster(SheetPage):
         self.wait_for("#roster-stop", "it.hidden")
         self.assertEqual(self.said("state"), "Stopped.")
         self.assertEqual(self.cells("more"), [])
+
+    def test_a_limit_in_which_one_more_place_would_cross_is_told(self):
+        self.write_cells("person,day,shift,gain,kind\nAda,Mon,a,1,night\nAda,Mon,b,1,\n"
+                         "Ada,Mon,c,1,\nAda,Tue,a,1,night\nAda,Tue,b,1,\n")
+        for limit, number in (("at most", "2"), ("on a day", "2"), ("night, at most", "1")):
+            self.type_into(f"Ada, {limit}", number)
+        self.plan()
+        self.click("one-more")
+        self.wait_until_said("One more place")
+        self.wait_for(self.part("stop"), "it.hidden")
+        self.assertIn("in any limit but Ada: limits would cross there.", self.said("state"))
+
+    def test_the_second_best_can_be_stopped_by_a_key(self):
+        self.write_cells(many_wishes(25, 18))
+        self.plan()
+        self.of(self.part("second"), "it.focus()")
+        self.click("second")
+        self.wait_until_said("The second best: 1 of")
+        self.browser.press("Escape")
+        self.wait_for(self.part("stop"), "it.hidden")
+        self.assertEqual(self.said("state"), "Stopped.")
+        self.assertEqual((self.cells("other"), self.said("other-told")), ([], ""))
+        self.assertTrue(self.is_at(self.part("second")))
+
+    def test_shifts_of_a_day_stand_together(self):
+        self.write_cells("person,day,shift,gain\nAda,Mon,Mon early,1\nAda,Tue,Tue early,1\n"
+                         "Ben,Mon,Mon late,1\n")
+        self.plan()
+        self.assertEqual(self.cells("table")[0],
+                         ["", "Mon early", "Mon late", "Tue early", "granted"])
+        self.assertEqual(self.of("[aria-label='Ada, on a day']", "it.value"), "1")
+
+    def test_the_plan_is_copied_and_printed(self):
+        self.write_cells(WISHES)
+        self.plan()
+        self.browser.run("""void Object.defineProperty(navigator, "clipboard", { value: {
+            writeText: async (it) => { globalThis.copied = it; } } })""")
+        self.click("copy")
+        self.wait_until_said("The plan is copied")
+        self.assertEqual(self.browser.run("globalThis.copied").splitlines()[:2],
+                         ["person\tday\tshift\tgain\tgranted", "Ada\tMon\tMon early\t5\tyes"])
+        self.browser.run("void (navigator.clipboard.writeText = () => Promise.reject())")
+        self.click("copy")
+        self.wait_until_said("This browser does not let the page copy.")
+        self.browser.run("void (globalThis.print = () => { globalThis.isPrinted = true; })")
+        self.click("print")
+        self.assertTrue(self.browser.run("globalThis.isPrinted"))
+
+    def test_the_keyboard_is_enough(self):
+        self.write_cells(WISHES)
+        self.plan()
+        self.of("#roster-tab", "it.focus()")
+        order = []
+        while len(order) < 99 and order[-1:] != ["roster-show-text"]:
+            self.browser.press("Tab")
+            order.append(self.browser.run(
+                "((it) => it.id || it.ariaLabel || it.title || it.textContent)"
+                "(document.activeElement)"))
+        self.assertEqual(order[:4], [self.part(it)[1:] for it in
+                                     ("cells", "open-cells", "add-line", "link")])
+        wanted = ["person, line 1", "gain, line 4", "roster-open-limits", "Ada, at most",
+                  "Tue early, at least", "roster-plan", "Ada, Mon early: granted",
+                  *(f"roster-{it}" for it in ("save", "copy", "print", "one-more", "second")),
+                  "Save the description", "Save the certificate", "roster-show-text"]
+        self.assertEqual([it for it in order if it in wanted], wanted)
+
+    def test_five_hundred_wishes_are_planned_within_a_second(self):
+        self.write_cells(many_wishes(25, 20))
+        taken = []
+        while len(taken) < 10 and min(taken, default=1000) >= 1000:
+            self.plan()
+            taken.append(int(self.said("state").split()[2]))
+            self.assertIn("of 500 wishes are granted", self.said("told"))
+            self.assertEqual(len(self.cells("table")), 27)
+        self.assertLess(min(taken), 1000)
+
+    def test_a_form_with_too_many_names_is_not_made(self):
+        self.write_cells(many_wishes(1_200, 1))
+        self.assertIn("There are more names than a description has elements",
+                      self.said("limits-fault"))
+        self.plan()
+        self.assertFalse(self.of("#roster-result", "it.checkVisibility()"))
+        self.write_cells(WISHES)
+        self.assertEqual(self.said("limits-fault"), "")
+
+    def test_of_long_texts_the_front_is_shown(self):
+        word = "x" * 120
+        wide = "".join(f"P{it},S,1,{word}\n" for it in range(9_000))
+        many = "".join(f"P{it},S,1,\n" for it in range(20_000))
+        for lines, shown, fault in ((wide, "of 9,001 lines", ""),
+                                    (many, "The first 10,000 of 20,001", "are too much")):
+            with tempfile.TemporaryDirectory() as folder:
+                path = pathlib.Path(folder, "wishes.csv")
+                path.write_text(f"person,shift,gain,kind\n{lines}")
+                self.browser.choose_file(path, "#roster-open-cells")
+                self.wait_for("#roster-text-part", f"it.textContent.includes({shown!r})")
+            self.assertIn(fault, self.said("cells-fault"))
+            self.assertLessEqual(len(self.said("cells")), 1_000_000)
+            self.assertLessEqual(len(self.cells("cells-table")), 201)
 
     def test_the_example_and_the_tabs(self):
         self.show_example()

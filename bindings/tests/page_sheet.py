@@ -1,7 +1,7 @@
 """The sheets of the page for their tests: what each does there, by the name of its tab."""
 import json
 
-from opened_page import Page
+from opened_page import Page, fragment_of
 
 
 class SheetPage(Page):
@@ -90,6 +90,15 @@ class SheetPage(Page):
         self.assertEqual(self.said("cells"), "")
         self.open(link)
         self.wait_for(self.part("cells"), "it.value")
+
+    def open_in_link(self, text):
+        """Opens a link of the sheet that holds this text, and waits until the page has read it."""
+        self.browser.run("sessionStorage.clear()")
+        self.open(self.address)
+        self.browser.run(f"""new Promise((done) => {{
+            addEventListener("hashchange", () => setTimeout(done, 200), {{ once: true }});
+            location.hash = {json.dumps(fragment_of(self.name, text))};
+        }})""")
 
     def hold_to_hostile_cells(self, cells):
         """Holds that cells that are markup make no elements, and run nothing."""
