@@ -4,8 +4,8 @@ A limit that the best plan does not fill gains nothing: a better plan with one p
 with the best one by a small part, would be better within the limits as they are; and where a
 mixture is better, a plan is. For each other limit the problem is solved with its cap raised by one.
 
-A least number stays as it is. If a wish has two copies, X of the weight 1:5 and X.more of 0:5, the
-first one counts for a least number, and the place is one for the second ones. If it has none, the
+A least number stays as it is, and a wish is granted once: a limit of one that is raised keeps the
+copies of a wish apart. If a wish has two copies, X of the weight 1:5 and X.more of 0:5, the first one counts for a least number, and the place is one for the second ones. If it has none, the
 cap is raised all the same: of the best plan then one element more counts than may, which is taken
 off; and a plan that does not use the place is no better than the best one.
 """
@@ -152,7 +152,11 @@ class _WhatIf:
         limit = room.limit
         if not self.can_gain(limit):
             return 0, self.plan
-        rung = self.wanted.solved(self.weights, caps={limit.line: limit.cap + 1})
+        caps = {limit.line: limit.cap + 1}
+        rung = self.wanted.solved(self.weights, caps=caps)
+        doubled = self.base.doubled(limit, rung.members) if limit.cap == 1 else []
+        if doubled and limit.kind in ("class", "set"):
+            rung = self.wanted.solved(self.weights, caps=caps, apart=(limit, doubled))
         plan = self.base.plan(rung.members)
         gain, tie = pair_of(plan.weight - self.plan.weight)
         gain -= room.is_least

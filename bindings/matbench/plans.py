@@ -18,7 +18,7 @@ if TYPE_CHECKING:
 
     from matbench.descriptions import Problem
     from matbench.real_names import Shown
-    from matbench.variants import Plan, Rung
+    from matbench.variants import Limit, Plan, Rung
     from matbench.weights import Weight
 
 ABOUT = """\
@@ -79,9 +79,10 @@ class Wanted:
         return packed(needed, *aims)
 
     def solved(self, weights: Sequence[Weight | int], without: Collection[int] = (),
-               caps: Mapping[int, int] | None = None) -> Rung:
-        """The best rung of the size. Raises NoPlan."""
-        text = self.base.text(weights, self.must_not | frozenset(without), caps)
+               caps: Mapping[int, int] | None = None,
+               apart: tuple[Limit, Sequence[Sequence[int]]] | None = None) -> Rung:
+        """The best rung of the size, as `Base.text` has the problem. Raises NoPlan."""
+        text = self.base.text(weights, self.must_not | frozenset(without), caps, apart)
         return self.read(text, certificate_of(self.base.command, text))
 
     def last(self, certificate: str) -> Rung:

@@ -178,14 +178,31 @@ class Base:
             found.update(self.copies(own) if self.names[own[0]] == wish_of(name) else own)
         return frozenset(found)
 
+    def doubled(self, limit: Limit, members: Collection[int]) -> list[list[int]]:
+        """The copies of each wish of which a limit has several, if these elements have several of
+        one."""
+        wishes: dict[str, list[int]] = {}
+        for it in limit.members:
+            wishes.setdefault(wish_of(self.names[it]), []).append(it)
+        several = [own for own in wishes.values() if len(own) > 1]
+        return several if any(sum(it in members for it in own) > 1 for own in several) else []
+
     def text(self, weights: Sequence[Weight | int], without: Collection[int] = (),
-             caps: Mapping[int, int] | None = None) -> str:
-        """The description with these weights, without some elements, and with other caps in these
-        lines."""
+             caps: Mapping[int, int] | None = None,
+             apart: tuple[Limit, Sequence[Sequence[int]]] | None = None) -> str:
+        """The description with these weights, without some elements, with other caps in these
+        lines, and with at most one of each of some sets in the family of a limit."""
         lines = list(self.lines)
         for at, cap in (caps or {}).items():
             word, _, *members = lines[at].split()
             lines[at] = " ".join([word, str(cap), *members])
+        if apart:
+            limit, sets = apart
+            head = limit.line - 1 - limit.place
+            behind = head + 1 + int(lines[head].split()[1])
+            family = [" ".join(["set", *line.split()[1:]]) for line in lines[head + 1:behind]]
+            family += [" ".join(["set 1", *map(str, it)]) for it in sets]
+            lines[head:behind] = [f"laminar {len(family)}", *family]
         lines[2] = " ".join(["weights", *map(str, weights)])
         if without:
             kept = (str(it) for it in range(len(self.names)) if it not in without)

@@ -372,6 +372,22 @@ class Costs(InFolder):
         self.assertNotIn("Without", ran("plan", path)[1])
 
 
+class Copies(InFolder):
+    """One more place, where a person has one and a wish two copies."""
+
+    def test_a_wish_is_not_granted_twice(self):
+        for kind, word in (("partition", "class"), ("laminar", "set")):
+            text = ("matroids 2\npair 5\nelements Jo.F Jo.F.more Jo.N Zo.F Zo.F.more\nweights 1:10"
+                    " 0:10 0:9 1:6 0:6\npartition 3\nclass 1 Jo.F Zo.F\nclass 1 Jo.F.more Zo.F.more"
+                    f"\nclass 0 Jo.N\n{kind} 2\n{word} 1 Jo.F Jo.F.more Jo.N\n{word} 1 Zo.F"
+                    " Zo.F.more\nend\n")
+            gains = {it.limit: (str(it.gain), it.plan.members) for it in one_more.one_more(text)[1]}
+            self.assertEqual(gains["Jo"], ("0", ("Jo.F", "Zo.F.more")))
+            free = one_more.one_more(text.replace("class 0", "class 1"))[1]
+            self.assertEqual([(it.limit, str(it.gain)) for it in free],
+                             [("F", "0"), ("N", "0"), ("Jo", "0:9")])
+
+
 class Hours(InFolder):
     """Rosters with hours."""
 
