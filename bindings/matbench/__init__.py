@@ -26,8 +26,8 @@ the end of the process ends it before.
 
 The library is libmatbench.so in this folder, beside it or in out/ beside it, or the file that the
 environment variable MATBENCH_LIBRARY names. The first call loads it. Where there is none, each call
-runs the program: the one that MATBENCH_PROGRAM names, or matbench on the search path, or that of the
-checkout that this package is in, which is unpacked by its ./matbench if need be. __version__
+runs the program: the one that MATBENCH_PROGRAM names, or matbench on the search path, or that of
+the checkout that this package is in, which its ./matbench unpacks if need be. __version__
 is the version of the program.
 
 `python3 -m matbench --help` lists commands for planners.

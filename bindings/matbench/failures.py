@@ -1,8 +1,8 @@
 """How many links of a network may fail, and python3 -m matbench failures.
 
 All places stay joined whichever K links fail exactly if K + 1 sets of arcs that share none reach
-all of them from the root (Edmonds). So `disjoint` is asked for 2, 3 and so on, until it says no; its
-answer then names places that few links lead to.
+all of them from the root (Edmonds). So `disjoint` is asked for 1, 2, 3 and so on, until it says no;
+its answer then names places that few links lead to.
 """
 from __future__ import annotations
 
@@ -26,11 +26,12 @@ How many links of a network may fail: all places stay reached from the root whic
 fail, and which one more would cut some off.
 
 NETWORK is a table of links, with the columns link, from and to, and ROOT one of its places; or a
-description of the form `rooted`. Where its arcs are both directions of links, X.there and X.back, as
-of a table, links fail; else arcs, which are one-way.
+description of the form `rooted`. Where its arcs are both directions of links, X.there and X.back,
+as of a table, links fail; else arcs, which are one-way.
 
 How it is proved: one more set of arcs than may fail, which share none and along each of which the
-root reaches all places, and places into which no more arcs lead. --proof writes both with their certificates."""
+root reaches all places, and places into which no more arcs lead. --proof writes both, with their
+certificates."""
 EXAMPLES = """\
 examples:
   python3 -m matbench failures examples/islands.csv Ash
@@ -41,19 +42,19 @@ The status is 0 if any one may fail, 1 if not, and 2 where what was given is not
 
 HOW = """How this proof is checked
 
-{yes}`matbench check network.txt no.answer` prints yes: no.answer says that there are no {more} such sets,
-and its line `vertices` names places into which no more than {cut} arcs lead, by their numbers.
+{yes}`matbench check network.txt no.answer` prints yes: no.answer says that there are no {more} such
+sets, and its line `vertices` names places into which no more than {cut} arcs lead, by their numbers.
 """
-YES = """`matbench check network.txt yes.answer` prints yes: yes.answer has {sets} sets of arcs that share
-none, along each of which the root reaches all places; so {most} may fail.
+YES = """`matbench check network.txt yes.answer` prints yes: yes.answer has {sets} sets of arcs that
+share none, along each of which the root reaches all places; so {most} may fail.
 
 """
 
 
 class Failures(NamedTuple):
     """So many links may fail, -1 if some places are not reached as it is, or None if as many may as
-    can be asked for. If all of `cut` fail, of which there is one more, `places` are cut off. `files`
-    shows it."""
+    can be asked for. If all of `cut` fail, of which there is one more, `places` are cut off.
+    `files` shows it."""
 
     most: int | None
     cut: tuple[str, ...]

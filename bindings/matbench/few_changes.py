@@ -204,8 +204,8 @@ def _table(choices: Sequence[Choice], base: Base) -> Table:
         rows.append([it.changes, weight, it.plan.size, _shown_cost(it.least_cost, base.real),
                      _shown_cost(it.most_cost, base.real), shown.names(it.new),
                      shown.names(it.dropped)])
-    return Table(("changes", "gain" if has_unit else "weight", "size", "best if a change costs", "to", "new", "dropped"),
-                 rows)
+    return Table(("changes", "gain" if has_unit else "weight", "size", "best if a change costs",
+                  "to", "new", "dropped"), rows)
 
 
 def _last_of(path: str, wanted: Wanted) -> tuple[frozenset[int], list[str]]:

@@ -63,7 +63,8 @@ def names_of_last(path: str, known: Collection[str], real: Collection[str] = ())
     """The names of the last plan in a file: of a roster as CSV those of the granted wishes, as a
     description has them, whose names `known` has; and else those in a text, without a first line
     such as `4 for 25:`. A line, or what stands between semicolons in it, may be one of the names
-    that are `real`, which may have spaces. Raises InputFault if it is too long, or there is nothing in it."""
+    that are `real`, which may have spaces. Raises InputFault if it is too long, or there is nothing
+    in it."""
     sheet = _roster_of(path)
     if sheet is not None:
         return _granted(sheet, known, real)

@@ -5,9 +5,10 @@ with the best one by a small part, would be better within the limits as they are
 mixture is better, a plan is. For each other limit the problem is solved with its cap raised by one.
 
 A least number stays as it is, and a wish is granted once: a limit of one that is raised keeps the
-copies of a wish apart. If a wish has two copies, X of the weight 1:5 and X.more of 0:5, the first one counts for a least number, and the place is one for the second ones. If it has none, the
-cap is raised all the same: of the best plan then one element more counts than may, which is taken
-off; and a plan that does not use the place is no better than the best one.
+copies of a wish apart. If a wish has two copies, X of the weight 1:5 and X.more of 0:5, the first
+one counts for a least number, and the place is one for the second ones. If it has none, the cap is
+raised all the same: of the best plan then one element more counts than may, which is taken off; and
+a plan that does not use the place is no better than the best one.
 """
 from __future__ import annotations
 
