@@ -43,7 +43,8 @@ The status is 0 if any one may fail, 1 if not, and 2 where what was given is not
 HOW = """How this proof is checked
 
 {yes}`matbench check network.txt no.answer` prints yes: no.answer says that there are no {more} such
-sets, and its line `vertices` names places into which no more than {cut} arcs lead, by their numbers.
+sets, and its line `vertices` names places, by their numbers, into which no more than {cut} arcs
+lead.
 """
 YES = """`matbench check network.txt yes.answer` prints yes: yes.answer has {sets} sets of arcs that
 share none, along each of which the root reaches all places; so {most} may fail.

@@ -29,8 +29,8 @@ told too.
 
 FILE is a description of the form `pair`, or `list` with one matroid. An element is called by its
 name, or by its number if it has none; X.must, X.may and X.more are copies of the wish X. Where FILE
-lies in a folder that `roster --proof` wrote, with the table elements.csv, elements have the names of
-the wishes too, and the answer has the names and the numbers of the roster."""
+lies in a folder that `roster --proof` wrote, with the table elements.csv, elements have the names
+of the wishes too, and the answer has the names and the numbers of the roster."""
 EXAMPLES = """\
 examples:
   python3 -m matbench plan wishes.txt
@@ -172,7 +172,8 @@ def _told_cost(plan: Plan, wanted: Wanted) -> str:
     if not wanted.must and not wanted.must_not:
         return ""
     free = Wanted(wanted.base, frozenset(), frozenset(), wanted.size)
-    other, shown = wanted.base.plan(free.solved(free.weights(*free.aims())).members), wanted.base.shown
+    other = wanted.base.plan(free.solved(free.weights(*free.aims())).members)
+    shown = wanted.base.shown
     words = " and ".join(word for word, own in (("--must", wanted.must),
                                                 ("--must-not", wanted.must_not)) if own)
     loss = other.weight - plan.weight

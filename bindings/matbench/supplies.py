@@ -38,9 +38,9 @@ ABOUT = """\
 The cheapest K supplies of a network together, which share nothing: along each of them the root
 reaches all places. They are proved to cost least.
 
-NETWORK is a table of links, with the columns link, from, to and cost, and ROOT one of its places; or
-a description of the form `rooted`, as `python3 -m matbench links` writes it, with names or without.
-Where its arcs are both directions of links, X.there and X.back, a link is in one supply
+NETWORK is a table of links, with the columns link, from, to and cost, and ROOT one of its places;
+or a description of the form `rooted`, as `python3 -m matbench links` writes it, with names or
+without. Where its arcs are both directions of links, X.there and X.back, a link is in one supply
 at most; with --both-ways it may be in two, in opposite directions. Other arcs are one-way.
 """
 EXAMPLES = """\
@@ -187,8 +187,8 @@ def given_network(path: str, root: str | None, is_each_arc: bool) -> Network:
                              " reached behind it")
         return network_of_table(path, root, is_each_arc)
     if root is not None:
-        raise InputFault(f"{path} is no table with the columns link, from and to: a description names"
-                         " its root itself")
+        raise InputFault(f"{path} is no table with the columns link, from and to: a description"
+                         " names its root itself")
     return network_of(Path(path), is_each_arc)
 
 
@@ -339,7 +339,8 @@ def main(words: Sequence[str]) -> int:
         write(f"NONE: there are no {number} supplies that share no {network.what}.\n")
         return NOT_SO
     if given.format == "json":
-        write(json_of({"cost": network.told_cost(found.cost), "arcs": _table(network, found).records()}))
+        write(json_of({"cost": network.told_cost(found.cost),
+                       "arcs": _table(network, found).records()}))
     else:
         write(_table(network, found).csv() if given.format == "csv" else
               _text(network, number, found))

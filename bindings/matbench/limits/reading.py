@@ -63,7 +63,8 @@ def _hold_to_elements(sheet: Sheet, lines: Sequence[Line], first: str, notes: li
                          f" of one, such as Ada.*night: {_listed(sheet, names)}")
     if patterns and len(patterns) == len(lines):
         raise InputFault(f"{sheet.name}: no element fits any of these patterns, so nothing would be"
-                         f" limited: {_listed(sheet, patterns)}. The first element is called {first}")
+                         f" limited: {_listed(sheet, patterns)}. The first element is called"
+                         f" {first}")
     if patterns:
         notes.append(f"{sheet.name}: no element fits these patterns, so they count nothing:"
                      f" {_listed(sheet, patterns)}")

@@ -3,7 +3,7 @@ from __future__ import annotations
 
 from typing import TYPE_CHECKING
 
-from matbench.real_names import COLUMNS, RealNames, names_beside
+from matbench.real_names import COLUMNS, TABLE, RealNames, names_beside
 from matbench.weights import pair_of
 
 if TYPE_CHECKING:
@@ -12,7 +12,7 @@ if TYPE_CHECKING:
     from matbench.limits.problem import Joined
     from matbench.texts import PathLike
 
-__all__ = ["COLUMNS", "RealNames", "real_names"]
+__all__ = ["COLUMNS", "TABLE", "RealNames", "real_names"]
 
 
 def real_names(paths: Sequence[PathLike], joined: Joined) -> RealNames | None:

@@ -82,9 +82,9 @@ def _rank(roster: Roster) -> int:
 
 
 def of_at_most(found: list[Changed], most: int) -> Roster:
-    """Of these rosters the best one with at most so many changes. Its `bound` is what no roster with
-    at most so many gains more than, where all that is needed is met alike. Raises InputFault if
-    each has more."""
+    """Of these rosters the best one with at most so many changes. Its `bound` is what no roster
+    with at most so many gains more than, where all that is needed is met alike. Raises InputFault
+    if each has more."""
     few = [place for place, it in enumerate(found) if _rank(it.roster) <= most]
     if not few:
         raise InputFault(f"each roster has more than {most} changes: the fewest are"

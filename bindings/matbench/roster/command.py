@@ -89,14 +89,14 @@ def _parser() -> argparse.ArgumentParser:
                         help="search for some T seconds at most, where a search is needed"
                              f" ({SECONDS:.0f}); with --one-more so long for each limit")
     parser.add_argument("--last", metavar="ROSTER",
-                        help="a roster of last time, as --format csv writes it: what changes is told,"
-                             " and of rosters of equal gain the one of fewest changes is taken")
+                        help="a roster of last time, as --format csv writes it: what changes is"
+                             " told, and of rosters of equal gain the one of fewest changes is taken")
     parser.add_argument("--few-changes", action="store_true",
                         help="tell too the rosters that are best where each change costs so much,"
                              " up to the one of fewest changes (--last, or a column last)")
     parser.add_argument("--changes", type=int, metavar="N",
-                        help="a roster with at most N changes against the last one, the best of those"
-                             " of --few-changes, and what no such roster gains more than")
+                        help="a roster with at most N changes against the last one, the best of"
+                             " those of --few-changes, and what no such roster gains more than")
     parser.add_argument("--one-more", action="store_true",
                         help="tell too what one more place in each limit brings, and who works then")
     parser.add_argument("--second-best", action="store_true",
@@ -201,8 +201,8 @@ def main(given: Sequence[str]) -> int:
     options = _parser().parse_args(given)
     if options.changes is not None and (options.one_more or options.second_best or options.tell
                                         or options.proof):
-        raise InputFault("--one-more, --second-best, --tell and --proof are of the best roster: they"
-                         " do not go with --changes")
+        raise InputFault("--one-more, --second-best, --tell and --proof are of the best roster:"
+                         " they do not go with --changes")
     request = _request(options)
     if options.description:
         _write_description(request, options.output)

@@ -195,7 +195,8 @@ def read_request(wishes: Source, limits: Source) -> Request:
     notes = [*sheet.notes, *lines.sheet.notes]
     if scale > 1:
         notes.append("Some gains have decimals: in the description all are multiplied by"
-                     f" {scale:,}; here they are as in the table, with a point before the decimals.")
+                     f" {scale:,}; here they are as in the table, with a point before the"
+                     " decimals.")
     return Request(tuple(found), of_shifts, of_people, tuple(notes))
 
 

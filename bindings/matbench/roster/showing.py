@@ -78,7 +78,8 @@ def _told_changes(roster: Roster) -> list[str]:
     """How many changes there are against the last roster, and which."""
     new, dropped = listed_changes(roster)
     return [f"Changes against the last roster: {roster.changes}.",
-            *([f"  new:     {new}"] if new else []), *([f"  dropped: {dropped}"] if dropped else [])]
+            *([f"  new:     {new}"] if new else []),
+            *([f"  dropped: {dropped}"] if dropped else [])]
 
 
 def _told_gap(roster: Roster) -> str:
@@ -151,8 +152,8 @@ def words(roster: Roster, changes: Sequence[Change] | None = None,
           costs: Sequence[Cost] = ()) -> str:
     """The roster as text: what it is worth, what columns of the tables cost, and tables of people
     and of shifts."""
-    parts = ["\n".join([*_head(roster), *map(_told_cost, costs)]) + "\n", people_table(roster).text(),
-             shifts_table(roster).text()]
+    parts = ["\n".join([*_head(roster), *map(_told_cost, costs)]) + "\n",
+             people_table(roster).text(), shifts_table(roster).text()]
     if changes is not None:
         parts.append(changes_table(changes).text())
         if not all(it.is_proved for it in changes):
@@ -248,10 +249,10 @@ def told(roster: Roster) -> str:
             lines = [*lines[:MOST_LINES - 1], left, lines[-1]]
         scale = roster.written.scale
         unit = f" Gains here are {scale:,} times those of the tables." if scale > 1 else ""
-        text = "\n".join(["Why no roster gains more: each further limit gets a price, and each wish is"
-                          f" charged what it counts.{unit}", *lines,
-                          "Best rungs are those of the descriptions with these weights. --proof FOLDER"
-                          " writes them with their certificates.", ""])
+        text = "\n".join([
+            "Why no roster gains more: each further limit gets a price, and each wish is charged what"
+            f" it counts.{unit}", *lines, "Best rungs are those of the descriptions with these"
+            " weights. --proof FOLDER writes them with their certificates.", ""])
     elif roster.answers:
         text = "\n".join(answer.told() for answer in roster.answers)
     else:

@@ -30,8 +30,8 @@ class Roster:
     """A roster: the places of the granted wishes in the request. `is_best`: no roster that keeps
     the limits meets more of what is needed, or as much with a greater gain, or, if it was asked for
     one of some size, none of this size. `answers` proves it, or `outcome` where limits cross or
-    there are several descriptions; its bound is the proof's if `is_best` is false. If it was asked for
-    one with at most `most_changes`, `bound` is what none of these gains more than, if that is
+    there are several descriptions; its bound is the proof's if `is_best` is false. If it was asked
+    for one with at most `most_changes`, `bound` is what none of these gains more than, if that is
     known."""
 
     request: Request = field(repr=False)
