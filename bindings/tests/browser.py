@@ -70,6 +70,10 @@ class Browser:
         """A picture of the whole page in PNG, in Base64."""
         raise NotImplementedError
 
+    def _printed(self):
+        """The page as it is printed, in PDF, in Base64."""
+        raise NotImplementedError
+
     def _complaints(self):
         """The complaints among the events that were kept."""
         raise NotImplementedError
@@ -113,6 +117,10 @@ class Browser:
         self._resize(width, max(height, self.run("document.documentElement.scrollHeight")), scale)
         pathlib.Path(path).write_bytes(base64.b64decode(self._screenshot()))
         self._resize(*self.size)
+
+    def print(self, path):
+        """Prints the page to a file in PDF."""
+        pathlib.Path(path).write_bytes(base64.b64decode(self._printed()))
 
     def _middle_of(self, selector):
         """The place of the middle of an element in the window, which is scrolled to it."""
@@ -246,6 +254,9 @@ class Chromium(Browser):
                 found += [entry["text"]] * (entry["level"] in ("error", "warning"))
         return found
 
+    def _printed(self):
+        return self.ask("Page.printToPDF", preferCSSPageSize=True)["data"]
+
     def _screenshot(self):
         return self.ask("Page.captureScreenshot", format="png", captureBeyondViewport=True)["data"]
 
@@ -352,6 +363,9 @@ class Firefox(Browser):
     def _complaints(self):
         return [it["params"]["text"] for it in self.events if it["method"] == "log.entryAdded"
                 and it["params"]["level"] in ("error", "warn")]
+
+    def _printed(self):
+        return self.ask("browsingContext.print", context=self.page)["data"]
 
     def _screenshot(self):
         return self.ask("browsingContext.captureScreenshot", context=self.page,

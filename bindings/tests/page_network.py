@@ -50,6 +50,24 @@ class Network(SheetPage):
         self.assertEqual(found, ["the link a stands twice, first in line 2", "there is no to",
                                  "cost is a whole number from 0, and not 'x'"])
 
+    def test_each_fault_is_told(self):
+        many = "".join(f"L{it},P{it},Q,1\n" for it in range(501))
+        self.hold_to_faults(
+            ("link,from,to,cost,gain\na,P,Q,1,1\n", "There is a column cost and a column gain"),
+            ("link,from,to,cost\na,P,Q,\n", "there is no cost"),
+            ("link,from,to,must,never\na,P,Q,yes,yes\n",
+             "the link must be built, and must not"),
+            ("link,from,to,owner\na,P,Q,\n", "there is no owner"),
+            ("link,from,to,gain\na,P,Q,9999999999999\n", "measure all of them in a larger unit"),
+            (f"link,from,to,cost\n{many}", "There are 501 links, and at most 500"))
+        self.write_cells("link,from,to,owner\na,P,Q,Ash\n")
+        self.type_into("Ash, at most", "")
+        self.assertIn("there is no number for Ash", self.faults())
+        self.write_cells(LINKS)
+        self.choose("task", "trees")
+        self.choose("count", "65")
+        self.assertIn("a whole number from 1 to 64", self.faults())
+
     def test_it_is_kept_and_in_a_link(self):
         self.show_example()
         self.type_into("Owner 0, at most", "0")
@@ -116,14 +134,16 @@ class Frame(SheetPage):
         self.plan()
         self.assertEqual(self.said("told"), told)
 
-    def test_refusals_are_marked(self):
-        self.write_cells("bar,from,to\na,P,Q\na,Q,\n")
-        found = self.of_all("#frame td.faulty .why", "it.textContent")
-        self.assertEqual(len(found), 2, found)
-        self.plan()
-        self.assertEqual(self.said("state"), "Something is not understood yet: it is marked.")
-        self.write_cells("bar,to\na,P\n")
-        self.assertNotEqual(self.said("cells-fault"), "")
+    def test_each_fault_is_told(self):
+        self.hold_to_faults(
+            ("bar,from,to\na,P,\n", "there is no to"),
+            ("bar,from,to\na,P,Q\na,Q,R\n", "a stands twice, first in line 2"),
+            ("bar,from,to\na,P,P\n", "both ends are P"),
+            ("bar,to\na,P\n", "The first line has the columns"),
+            ("part,kind,from,to\na,glue,P,Q\n", "the kind is bar or hinge, and not 'glue'"))
+        self.write_cells("bar,from,to\na,P,Q\n")
+        self.type_into("P, pin or roller", "wheel")
+        self.assertIn("a joint has a pin, a roller or nothing", self.faults())
 
     def test_hostile_cells_and_links_run_nothing(self):
         hostile = "bar,from,to\n<img src=x onerror=ran=1>,<script>ran=1</script>,__proto__\n"

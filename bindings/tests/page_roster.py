@@ -38,7 +38,8 @@ class Roster(SheetPage):
     def test_pasted_cells_become_a_roster(self):
         self.write_cells(WISHES.replace(",", "\t"))
         self.plan()
-        self.assertTrue(self.said("told").startswith("2 of 4 wishes are granted, gain 9. No roster"))
+        self.assertTrue(self.said("told").startswith(
+            "2 of 4 wishes are granted, gain 9. No roster"))
         self.assertEqual(self.cells("table"), [
             ["", "Mon early", "Mon late", "Tue early", "granted"],
             ["Ada", "5 granted", "", "3 refused", "1 of 1"],
@@ -118,6 +119,49 @@ class Roster(SheetPage):
         self.assertIn("200 of 501 lines are shown", self.said("cells-part"))
         self.click("plan")
         self.assertIn("at most 500 elements", self.said("refusal"))
+
+    def test_each_fault_of_cells_is_told(self):
+        head = "person,shift,gain\n"
+        self.hold_to_faults(
+            (head + "Ada,early,1\0\n", "There is a zero byte in it"),
+            (head + '"Ada"x,early,1\n', "something stands behind the quotes of a cell"),
+            (head + "Ada," + "x" * 131_073 + ",1\n", "a cell has more than 131,072 signs"),
+            (head + "Ada,early,1\nAda,early,2\n",
+             "this wish of Ada stands twice, first in line 2"),
+            (head + "Ada,early,\n", "there is no gain"),
+            (head + 'Ada,early,"1,5"\nAda,late,2.5\n', "write them in one way"),
+            (head + 'Ada,early,"1,500"\n', "may be thousands or decimals"),
+            (head + "Ada,early,9999999999999\n", "measure all gains in a larger unit"),
+            ("person,day,shift,gain\nAda,,early,1\n", "the wish has no day"),
+            ("person,shift,gain,must,never\nAda,early,1,yes,yes\n",
+             "the wish must be granted, and must not"))
+
+    def test_each_fault_of_limits_is_told(self):
+        self.write_cells("person,shift,gain,kind\nAda,early,1,night\nBen,early,2,\n")
+        for label, value, said in (
+                ("Ada, at most", "", "there is no number for Ada"),
+                ("early, at least", "2", "at least 2 are more than at most 1"),
+                ("early, night, at least", "1", "")):
+            self.type_into(label, value)
+            self.assertIn(said, self.faults())
+            self.type_into(label, "1")
+        self.type_into("early, at most", "2")
+        self.assertIn("both at once cannot be said", self.faults())
+
+    def test_each_fault_of_a_file_of_limits_is_told(self):
+        self.write_cells("person,shift,gain\nAda,early,1\nBen,late,2\n")
+        with tempfile.TemporaryDirectory() as folder:
+            path = pathlib.Path(folder, "limits.csv")
+            for lines, said in (("name\nAda\n", "The first line has the columns name, most"),
+                                ("name,most\n,1\n", "the limit has no name"),
+                                ("name,most\nAda,1\nAda,2\n", "Ada stands twice"),
+                                ("name,most\nAda,x\n", "most is a whole number from 0"),
+                                ("name,most\nZoë,1\n", "Of this file nothing is wanted for Zoë")):
+                path.write_text(lines)
+                self.browser.choose_file(path, "#roster-open-limits")
+                self.wait_for("#roster", f"it.textContent.includes({said!r})")
+        self.write_cells("person,shift,gain\nAda,Ada,1\n")
+        self.assertIn("'Ada' is a name among the people and among the shifts", self.faults())
 
     def test_limits_that_cross_the_others_are_refused(self):
         self.write_cells("person,day,shift,gain,kind\nAda,Mon,a,1,night\nAda,Mon,b,1,\n"
@@ -225,8 +269,8 @@ class Roster(SheetPage):
         self.plan()
         self.click("second")
         self.wait_until_said("The second best plan is found.")
-        self.assertEqual(self.said("other-told"),
-                         "The second best plan: it meets 1 less of what is needed, and gains 5 less.")
+        self.assertEqual(self.said("other-told"), "The second best plan: it meets 1 less of what "
+                         "is needed, and gains 5 less.")
 
     def test_trying_places_can_be_stopped(self):
         self.write_cells(many_wishes(25, 18))
@@ -355,6 +399,26 @@ class Roster(SheetPage):
         self.assertEqual(self.of("[aria-label='Sunday day, at least']", "it.value"), "1")
         self.plan()
         self.assertIn("What is needed is met.", self.said("told"))
+
+    def test_a_week_of_a_clinic_is_printed_with_nights_limited(self):
+        parts = ("early", "late", "night")
+        lines = [f"P{it},{day},{day} {part},{(7 * it + 5 * place + 3 * len(part)) % 9 + 1},"
+                 f"{'night' * (part == 'night')}\n" for it in range(12)
+                 for place, day in enumerate(("Mon", "Tue", "Wed", "Thu", "Fri", "Sat", "Sun"))
+                 for part in parts if (it + 2 * place + len(part)) % 3]
+        self.write_cells("".join(["person,day,shift,gain,kind\n", *lines]).replace(",", "\t"))
+        for person in range(12):
+            for limit, number in (("at most", 4), ("on a day", 5), ("night, at most", 1)):
+                self.type_into(f"P{person}, {limit}", str(number))
+        self.plan()
+        self.assertIn("No roster within these limits gains more", self.said("told"))
+        head, *rows, _ = self.cells("table")
+        self.assertEqual((len(head), len(rows)), (23, 12))
+        nights = [place for place, it in enumerate(head) if it.endswith("night")]
+        for row in rows:
+            self.assertLessEqual(sum("granted" in row[it] for it in nights), 1, row)
+        self.hold_to_windows()
+        self.browser.print(self.pictures / "roster.pdf")
 
     def test_it_fits_narrow_and_wide_windows(self):
         self.show_example()

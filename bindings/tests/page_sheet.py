@@ -100,6 +100,20 @@ class SheetPage(Page):
             location.hash = {json.dumps(fragment_of(self.name, text))};
         }})""")
 
+    def faults(self):
+        """All that is told of what is wrong with the cells and the limits, after a try to plan."""
+        self.plan()
+        self.assertFalse(self.of(self.part("result"), "it.checkVisibility()"))
+        panel = f"#{self.name}"
+        return " ".join(self.of_all(f"{panel} .fault, {panel} .why", "it.textContent"))
+
+    def hold_to_faults(self, *pairs):
+        """Holds that each of these cells is refused, and what is said of it."""
+        for cells, said in pairs:
+            with self.subTest(said=said):
+                self.write_cells(cells)
+                self.assertIn(said, self.faults())
+
     def hold_to_hostile_cells(self, cells):
         """Holds that cells that are markup make no elements, and run nothing."""
         elements = "document.querySelectorAll('script, img, svg').length"
