@@ -679,6 +679,23 @@ class OneFile(Page):
         self.assertEqual(self.text("#answer"), matbench.intersect(PEOPLE).certificate)
         self.picture("one_file")
 
+    def test_no_script_but_its_own_runs(self):
+        policy = self.of("meta[http-equiv]", "it.content")
+        self.assertRegex(policy, r"; script-src( 'sha256-\S{44}'){2} 'wasm-unsafe-eval'; ")
+        blocked = self.browser.run("""(async () => {
+            const text = "window.ran = 1";
+            const src = URL.createObjectURL(new Blob([text], { type: "text/javascript" }));
+            const blocked = [];
+            document.addEventListener("securitypolicyviolation", (it) => blocked.push(it));
+            for (const given of [{ text }, { text, type: "module" }, { src }]) {
+                document.body.append(Object.assign(document.createElement("script"), given));
+            }
+            while (blocked.length < 3) await new Promise((done) => setTimeout(done, 10));
+            return [blocked.length, window.ran === undefined];
+        })()""")
+        self.assertEqual(blocked, [3, True])
+        self.browser.forget()
+
     def test_it_makes_a_link_and_keeps_a_text(self):
         self.of("#link", "it.click()")
         self.browser.wait("location.hash.startsWith('#intersect,2,')")
