@@ -357,6 +357,12 @@ class Costs(InFolder):
         self.assertIn("\nWithout the column least: gain 5, so it costs 2.\n", text)
         self.assertNotIn("Without", self.roster(wishes, "name,most\nMon,1\nTue,1\nAda,1\n"))
 
+    def test_with_hours_they_are_told_too(self):
+        wishes = "person,shift,gain,hours,must\nAda,Mon,5,8,\nAda,Tue,3,8,yes\nAda,Wed,2.5,4,\n"
+        text = self.roster(wishes, "name,most,hours\nMon,1,\nTue,1,\nWed,1,\nAda,3,12\n")
+        self.assertIn("gain 5.5.\n", text)
+        self.assertIn("\nWithout the column must: gain 7.5, so it costs 2.\n", text)
+
     def test_more_of_what_is_needed_is_no_cost(self):
         wishes = "person,shift,gain,must\nAda,Mon,5,yes\nAda,Tue,3,\n"
         text = self.roster(wishes, "name,most,least\nMon,1,\nTue,1,1\nAda,1,\n")

@@ -12,6 +12,7 @@ from matbench.limits.proofs import write_proof
 from matbench.limits.solving import SECONDS
 from matbench.progress import Progress
 from matbench.roster.changing import changed_rosters, changed_table, of_at_most
+from matbench.roster.costs import SECONDS as COST_SECONDS
 from matbench.roster.costs import costs_of
 from matbench.roster.folders import elements_table, how_to_check
 from matbench.roster.picture import picture
@@ -211,7 +212,8 @@ def main(given: Sequence[str]) -> int:
         roster = solve(request, options.size, progress, options.seconds)
         changes = what_if(roster, progress, options.seconds) if options.one_more else None
         others = second_rosters(roster, progress) if options.second_best else None
-        costs = costs_of(roster, progress) if options.format != "csv" else []
+        costs = [] if options.format == "csv" else \
+            costs_of(roster, progress, min(options.seconds, COST_SECONDS))
         has_few = options.few_changes or options.changes is not None
         few = changed_rosters(roster, progress) if has_few else None
     if few is not None and options.changes is not None:

@@ -9,6 +9,9 @@ from typing import TYPE_CHECKING
 from matbench.faults import InputFault
 from matbench.roster.solving import MUST, solve
 
+#: A search for what columns cost takes at most so many seconds.
+SECONDS = 10.0
+
 if TYPE_CHECKING:
     from fractions import Fraction
 
@@ -50,22 +53,22 @@ def _without_leasts(request: Request) -> tuple[tuple[str, ...], Request]:
     return columns, dataclasses.replace(request, shifts=shifts)
 
 
-def costs_of(roster: Roster, progress: Progress | None = None) -> list[Cost]:
-    """What must and never cost together, and what least numbers cost, where there are some. Nothing
-    where limits cross, hours are limited or there are several descriptions, as a search would have
-    to be made anew."""
+def costs_of(roster: Roster, progress: Progress | None = None,
+             seconds: float = SECONDS) -> list[Cost]:
+    """What must and never cost together, and what least numbers cost, where there are some, and
+    both rosters are proved best. Where a search is needed, each takes some seconds at most."""
     found = []
     cases = [_without_wishes(roster.request), _without_leasts(roster.request)]
-    for columns, request in cases if roster.answers else []:
+    for columns, request in cases if roster.is_best else []:
         if not columns:
             continue
         if progress:
             progress.tell(f"what {' and '.join(columns)} cost")
         try:
-            other = solve(request, roster.size)
+            other = solve(request, roster.size, seconds=seconds)
         except InputFault:
             continue
-        if other.answers:
+        if other.is_best:
             meets_more = len(_unmet(other, columns)) < len(_unmet(roster, columns))
             found.append(Cost(columns, other.gain, other.gain - roster.gain, meets_more))
     return found
