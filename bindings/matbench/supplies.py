@@ -336,7 +336,9 @@ def main(words: Sequence[str]) -> int:
     if given.proof:
         _write_proof(network, number, found, given.proof)
     if found.supplies is None:
-        write(f"NONE: there are no {number} supplies that share no {network.what}.\n")
+        hint = " With --both-ways a link may be in two of them, in opposite directions." \
+            if network.is_both_ways else ""
+        write(f"NONE: there are no {number} supplies that share no {network.what}.{hint}\n")
         return NOT_SO
     if given.format == "json":
         write(json_of({"cost": network.told_cost(found.cost),

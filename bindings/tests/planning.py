@@ -619,7 +619,11 @@ class Supplied(InFolder):
             self.assertIn(told, notes)
         self.assertEqual(ran("supplies", self.file("n.txt", mixed), "--both-ways")[0], 0)
         status, text, _ = ran("supplies", self.file("n.txt", links), "--number", "3")
-        self.assertEqual((status, text), (1, "NONE: there are no 3 supplies that share no link.\n"))
+        self.assertEqual((status, text), (
+            1, "NONE: there are no 3 supplies that share no link. With --both-ways a link may be in"
+               " two of them, in opposite directions.\n"))
+        status, text, _ = ran("supplies", self.file("n.txt", links), "--number", "3", "--both-ways")
+        self.assertEqual((status, text), (1, "NONE: there are no 3 supplies that share no arc.\n"))
 
 
 if __name__ == "__main__":
