@@ -4,6 +4,7 @@ ghost use Rattle.std.specs.Prelude.{◌≡◌, IfOk};
 ghost use Rattle.mat_sets.specs.Sets.{AllBelow};
 ghost use Rattle.mat_text.specs.Paragraphs.{KeepsParagraphs};
 
+use crate::naming::Wording;
 use crate::rooms::{Roomy, room};
 use mat_laws::{Matroid, rank_of};
 use mat_sets::ElemSet;
@@ -21,6 +22,16 @@ pub struct Largest {
     pub group: Noun,
 }
 
+impl Largest {
+    // What its elements are called, and the word for a class.
+    fn wording<'a>(self, called: &Called<'a>) -> Wording<'a> {
+        Wording {
+            called: *called,
+            group: self.group,
+        }
+    }
+}
+
 // A set of elements, and how many of it the rule of this number allows at most.
 #[derive(Drop)]
 struct Side<'a> {
@@ -36,13 +47,13 @@ fn side_of<'a, M: Roomy>(
     rule: u32,
     m: &M,
     set: &'a ElemSet,
-    group: Noun,
+    wording: Wording<'_>,
 ) -> Result<Side<'a>, AllocError>
     requires sound { M.sound m.now }
     requires below { AllBelow (M.ground_size m.now) set.now }
 {
     let rank = rank_of(alloc, m, set)?;
-    let room = room(alloc, m, set, rank, group)?;
+    let room = room(alloc, m, set, rank, wording)?;
     Ok(Side {
         rule,
         set,
@@ -54,6 +65,7 @@ fn side_of<'a, M: Roomy>(
 // Tells that the rule of this number allows no more of all elements.
 fn tell_whole<M: Roomy>(
     text: &mut Text,
+    called: &Called<'_>,
     largest: Largest,
     rule: u32,
     m: &M,
@@ -63,7 +75,7 @@ fn tell_whole<M: Roomy>(
     requires below { AllBelow (M.ground_size m.now) all.now }
     ensures { KeepsParagraphs text.old text.new }
 {
-    let side = side_of(text.alloc(), rule, m, all, largest.group)?;
+    let side = side_of(text.alloc(), rule, m, all, largest.wording(called))?;
     text.detail(format_args!(
         "Rule {rule} allows at most {} of all {}{}.",
         largest.size,
@@ -116,8 +128,9 @@ fn tell_both<A: Roomy, B: Roomy>(
     requires second_below { AllBelow (B.ground_size second.0.now) second.1.now }
     ensures { KeepsParagraphs text.old text.new }
 {
-    let first = side_of(text.alloc(), 1, first.0, first.1, largest.group)?;
-    let second = side_of(text.alloc(), 2, second.0, second.1, largest.group)?;
+    let wording = largest.wording(called);
+    let first = side_of(text.alloc(), 1, first.0, first.1, wording)?;
+    let second = side_of(text.alloc(), 2, second.0, second.1, wording)?;
     if first.set.len() <= second.set.len() {
         tell_sides(text, called, largest.noun, &first, &second)?;
     } else {
@@ -163,9 +176,9 @@ pub fn tell_cut<A: Roomy, B: Roomy>(
     if largest.size == all.len() {
         text.detail("There are no more.")
     } else if cut.is_empty() {
-        tell_whole(text, largest, 1, first, &all)
+        tell_whole(text, called, largest, 1, first, &all)
     } else if cut.len() == all.len() {
-        tell_whole(text, largest, 2, second, &all)
+        tell_whole(text, called, largest, 2, second, &all)
     } else {
         let rest = all_but(text.alloc(), first, cut)?;
         tell_both(text, called, largest, (first, &rest), (second, cut))

@@ -4,6 +4,7 @@ ghost use Rattle.std.specs.Prelude.{string_bytes, IfOk};
 ghost use Rattle.mat_reasons.specs.Brackets.{IsInBrackets};
 
 use crate::bounds::FEW;
+use crate::naming::{Naming, Wording, class_words};
 use mat_any::AnyMatroid;
 use mat_count::{Partition, Uniform};
 use mat_graphic::Graphic;
@@ -51,13 +52,13 @@ impl Phrases {
 
 /// A matroid of which it can be told why it allows no more of a set.
 pub trait Roomy: Matroid {
-    /// Phrases on why the rank of a set is this one, where counts show it; `group` is the word for a class. The only error is want of memory.
+    /// Phrases on why the rank of a set is this one, where counts show it. The only error is want of memory.
     fn phrases(
         &self,
         alloc: Global,
         set: &ElemSet,
         rank: u32,
-        group: Noun,
+        wording: Wording<'_>,
     ) -> Result<Phrases, AllocError>;
 }
 
@@ -67,7 +68,7 @@ impl Roomy for Uniform {
         alloc: Global,
         set: &ElemSet,
         _rank: u32,
-        _group: Noun,
+        _wording: Wording<'_>,
     ) -> Result<Phrases, AllocError> {
         let mut phrases = Phrases::new(alloc);
         if (self.cap() as usize) < set.len() {
@@ -109,25 +110,20 @@ impl Roomy for Partition {
         alloc: Global,
         set: &ElemSet,
         _rank: u32,
-        group: Noun,
+        wording: Wording<'_>,
     ) -> Result<Phrases, AllocError> {
         let mut phrases = Phrases::new(alloc);
-        let word = group.word();
+        let classes = self.classes().as_slice();
+        let naming = Naming::of(alloc, &wording.called, classes)?;
         let mut free = set.len();
-        for (c, (class, cap)) in self
-            .classes()
-            .as_slice()
-            .iter()
-            .zip(self.caps())
-            .enumerate()
-        {
+        for (c, (class, cap)) in classes.iter().zip(self.caps()).enumerate() {
             let here = members_in(set, class);
             free = free.saturating_sub(here);
-            let name = format!(in alloc; "{word} {c}")?;
+            let name = class_words(alloc, &naming, wording.group, c, class)?;
             add_class(alloc, &mut phrases, &name, here, *cap)?;
         }
         if free > 0 {
-            phrases.add(&format!(in alloc; "{free} in no {word}")?)?;
+            phrases.add(&format!(in alloc; "{free} in no {}", wording.group.word())?)?;
         }
         Ok(phrases)
     }
@@ -139,7 +135,7 @@ impl Roomy for Graphic {
         alloc: Global,
         _set: &ElemSet,
         rank: u32,
-        _group: Noun,
+        _wording: Wording<'_>,
     ) -> Result<Phrases, AllocError> {
         let mut phrases = Phrases::new(alloc);
         let all = self.vertices();
@@ -159,12 +155,12 @@ impl Roomy for AnyMatroid {
         alloc: Global,
         set: &ElemSet,
         rank: u32,
-        group: Noun,
+        wording: Wording<'_>,
     ) -> Result<Phrases, AllocError> {
         match self {
-            AnyMatroid::Uniform(uniform) => uniform.phrases(alloc, set, rank, group),
-            AnyMatroid::Partition(partition) => partition.phrases(alloc, set, rank, group),
-            AnyMatroid::Graphic(graphic) => graphic.phrases(alloc, set, rank, group),
+            AnyMatroid::Uniform(uniform) => uniform.phrases(alloc, set, rank, wording),
+            AnyMatroid::Partition(partition) => partition.phrases(alloc, set, rank, wording),
+            AnyMatroid::Graphic(graphic) => graphic.phrases(alloc, set, rank, wording),
             _ => Ok(Phrases::new(alloc)),
         }
     }
@@ -176,9 +172,9 @@ pub fn room<M: Roomy>(
     m: &M,
     set: &ElemSet,
     rank: u32,
-    group: Noun,
+    wording: Wording<'_>,
 ) -> Result<String, AllocError>
     ensures { IfOk result (λ words. IsInBrackets (string_bytes words)) }
 {
-    m.phrases(alloc, set, rank, group)?.in_brackets(alloc)
+    m.phrases(alloc, set, rank, wording)?.in_brackets(alloc)
 }

@@ -9,8 +9,8 @@ use mat_any::AnyMatroid;
 use mat_cert::PlainRung;
 use mat_laws::Matroid;
 use mat_reasons::{
-    Aim, Bounded, Elements, Rule, best_of, have_tie, plain_steps, room, tell_bound, tell_sizes,
-    tell_ties, tell_top, values_at,
+    Aim, Bounded, Elements, Wording, best_of, have_tie, plain_steps, room, state_rule, tell_bound,
+    tell_sizes, tell_ties, tell_top, values_at,
 };
 use mat_sets::{ElemSet, Weight};
 use mat_text::{Called, Noun, Spelled, Text, many};
@@ -58,7 +58,12 @@ fn tell_reasons(
 }
 
 // Tells why no set has more elements than this.
-fn tell_largest(text: &mut Text, matroid: &AnyMatroid, largest: u32) -> Result<(), AllocError>
+fn tell_largest(
+    text: &mut Text,
+    called: &Called<'_>,
+    matroid: &AnyMatroid,
+    largest: u32,
+) -> Result<(), AllocError>
     requires { IsSound (tree_of matroid.now) }
 {
     let size = many(largest as usize, Noun::Element);
@@ -67,7 +72,11 @@ fn tell_largest(text: &mut Text, matroid: &AnyMatroid, largest: u32) -> Result<(
         return text.detail("There are no more.");
     }
     let all = ElemSet::all_below(text.alloc(), matroid.size())?;
-    let room = room(text.alloc(), matroid, &all, largest, Noun::Class)?;
+    let wording = Wording {
+        called: *called,
+        group: Noun::Class,
+    };
+    let room = room(text.alloc(), matroid, &all, largest, wording)?;
     if room.is_empty() {
         text.detail(format_args!(
             "To the set of {size} nothing can be added, and under such a rule a set that cannot grow is as large as any."
@@ -95,12 +104,12 @@ pub(crate) fn tell_best(
         "Wanted: of {} a set that keeps one rule.",
         many(weights.len(), Noun::Element)
     ))?;
-    text.detail(format_args!("rule: {}", Rule(matroid)))?;
+    state_rule(text, called, "rule", matroid)?;
     tell_ties(text, have_tie(weights))?;
     let steps = plain_steps(text.alloc(), rungs)?;
     let best = best_of(&steps);
     tell_top(text, &Elements(*called), &steps, best)?;
     tell_sizes(text, called, &steps)?;
     tell_reasons(text, weights, rungs, best)?;
-    tell_largest(text, matroid, (rungs.len() - 1) as u32)
+    tell_largest(text, called, matroid, (rungs.len() - 1) as u32)
 }

@@ -6,20 +6,20 @@ ghost use Rattle.std.specs.Prelude.{IfSome};
 
 use mat_any::AnyMatroid;
 use mat_laws::{Matroid, rank_of};
-use mat_reasons::{Rule, room};
+use mat_reasons::{Wording, room, state_rule};
 use mat_sets::{ElemSet, SetList};
 use mat_text::{Called, Noun, Text, many, tell_parts};
 use std::alloc::AllocError;
 
 // Tells what is wanted.
-fn tell_wanted(text: &mut Text, matroid: &AnyMatroid) -> Result<(), AllocError>
+fn tell_wanted(text: &mut Text, called: &Called<'_>, matroid: &AnyMatroid) -> Result<(), AllocError>
     requires { IsSound (tree_of matroid.now) }
 {
     text.say(format_args!(
         "Wanted: as few sets as can be that keep one rule and together hold all {}.",
         many(matroid.size() as usize, Noun::Element)
     ))?;
-    text.detail(format_args!("rule: {}", Rule(matroid)))
+    state_rule(text, called, "rule", matroid)
 }
 
 /// Tells that no sets hold all elements, since the matroid does not allow this one. The only error is want of memory.
@@ -31,7 +31,7 @@ pub(crate) fn tell_never(
 ) -> Result<(), AllocError>
     requires { IsSound (tree_of matroid.now) }
 {
-    tell_wanted(text, matroid)?;
+    tell_wanted(text, called, matroid)?;
     text.say(format_args!(
         "NONE: the rule does not allow {}, not even alone.",
         called.element(element as usize)
@@ -81,7 +81,11 @@ fn tell_cut(
 {
     let alloc = text.alloc();
     let rank = rank_of(alloc, matroid, cut)?;
-    let room = room(alloc, matroid, cut, rank, Noun::Class)?;
+    let wording = Wording {
+        called: *called,
+        group: Noun::Class,
+    };
+    let room = room(alloc, matroid, cut, rank, wording)?;
     let rest = ElemSet::all_below(alloc, matroid.size())?.minus(alloc, cut)?;
     tell_most(text, called, rank, &room, cut, &rest)?;
     text.detail(format_args!(
@@ -103,7 +107,7 @@ pub(crate) fn tell_cover(
     requires sound { IsSound (tree_of matroid.now) }
     requires below { IfSome cut.now (AllBelow (element_count (tree_of matroid.now))) }
 {
-    tell_wanted(text, matroid)?;
+    tell_wanted(text, called, matroid)?;
     text.say(format_args!("BEST: {}.", many(sets.len(), Noun::Set)))?;
     tell_parts(text, called, Noun::Set, sets.as_slice())?;
     let Some(cut) = cut else {

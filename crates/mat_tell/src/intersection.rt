@@ -6,7 +6,7 @@ ghost use Rattle.mat_cert.specs.Certificates.{IsRangedLadder};
 
 use mat_any::AnyMatroid;
 use mat_cert::PricedRung;
-use mat_reasons::{Elements, Largest, Rule, tell_cut, tell_ladder};
+use mat_reasons::{Elements, Largest, state_rule, tell_cut, tell_ladder};
 use mat_sets::{ElemSet, Weight};
 use mat_text::{Called, Noun, Text, many};
 use std::alloc::AllocError;
@@ -37,8 +37,8 @@ pub(crate) fn tell_intersection(
         "Wanted: of {} a set that keeps two rules.",
         many(pair.weights.len(), Noun::Element)
     ))?;
-    text.detail(format_args!("rule 1: {}", Rule(pair.first)))?;
-    text.detail(format_args!("rule 2: {}", Rule(pair.second)))?;
+    state_rule(text, called, "rule 1", pair.first)?;
+    state_rule(text, called, "rule 2", pair.second)?;
     tell_ladder(text, called, &Elements(*called), pair.weights, rungs)?;
     let largest = Largest {
         size: rungs.len() - 1,

@@ -51,7 +51,7 @@ fn tell_single(
 {
     match answer {
         Answer::Best { rungs, .. } => tell_best(text, called, weights, matroid, rungs),
-        Answer::PackAny { .. } => tell_any_bases(text, matroid),
+        Answer::PackAny { .. } => tell_any_bases(text, called, matroid),
         Answer::Pack { bases, cut, .. } => tell_bases(text, called, matroid, bases, cut),
         Answer::CoverNever { loop_at, .. } => tell_never(text, called, matroid, *loop_at),
         Answer::Cover { sets, cut, .. } => tell_cover(text, called, matroid, sets, cut),

@@ -6,28 +6,32 @@ ghost use Rattle.mat_any.specs.{Trees.{element_count, IsSound}, Views.{tree_of}}
 
 use mat_any::AnyMatroid;
 use mat_laws::{Matroid, rank_of};
-use mat_reasons::Rule;
+use mat_reasons::state_rule;
 use mat_sets::{ElemSet, SetList};
 use mat_text::{Called, Noun, Text, many, outside, tell_left, tell_parts};
 use std::alloc::AllocError;
 use std::fmt::Display;
 
 // Tells what is wanted.
-fn tell_wanted(text: &mut Text, matroid: &AnyMatroid) -> Result<(), AllocError>
+fn tell_wanted(text: &mut Text, called: &Called<'_>, matroid: &AnyMatroid) -> Result<(), AllocError>
     requires { IsSound (tree_of matroid.now) }
 {
     text.say(format_args!(
         "Wanted: of {} as many bases as can be without a common element. A base is as large as the rule allows.",
         many(matroid.size() as usize, Noun::Element)
     ))?;
-    text.detail(format_args!("rule: {}", Rule(matroid)))
+    state_rule(text, called, "rule", matroid)
 }
 
 /// Tells that there are any number of bases, since each is empty. The only error is want of memory.
-pub(crate) fn tell_any_bases(text: &mut Text, matroid: &AnyMatroid) -> Result<(), AllocError>
+pub(crate) fn tell_any_bases(
+    text: &mut Text,
+    called: &Called<'_>,
+    matroid: &AnyMatroid,
+) -> Result<(), AllocError>
     requires { IsSound (tree_of matroid.now) }
 {
-    tell_wanted(text, matroid)?;
+    tell_wanted(text, called, matroid)?;
     text.say("BEST: as many as are asked for, all of them empty, since the rule allows no element.")
 }
 
@@ -143,7 +147,7 @@ pub(crate) fn tell_bases(
     requires few { length bases.now ≤ most_elements }
     requires below { AllBelow (element_count (tree_of matroid.now)) cut.now }
 {
-    tell_wanted(text, matroid)?;
+    tell_wanted(text, called, matroid)?;
     let all = ElemSet::all_below(text.alloc(), matroid.size())?;
     let needs = Needs {
         rank: rank_of(text.alloc(), matroid, &all)?,

@@ -9,7 +9,7 @@ ghost use Rattle.mat_cert.specs.Certificates.{IsRangedLevel};
 use mat_any::AnyMatroid;
 use mat_cert::LevelLine;
 use mat_laws::rank_of;
-use mat_reasons::{FEW, Rule, have_tie, tell_ties};
+use mat_reasons::{FEW, have_tie, state_rule, tell_ties};
 use mat_sets::{ElemSet, Weight, heavy_elements};
 use mat_text::{Called, Noun, Spelled, Text, many, outside, tell_left, tell_parts};
 use std::alloc::{AllocError, Global};
@@ -272,14 +272,14 @@ fn tell_reason(
 }
 
 // Tells what is wanted.
-fn tell_wanted(text: &mut Text, rules: &Rules<'_>) -> Result<(), AllocError> {
+fn tell_wanted(text: &mut Text, called: &Called<'_>, rules: &Rules<'_>) -> Result<(), AllocError> {
     text.say(format_args!(
         "Wanted: of {} as many as can be in {} that keep their rules.",
         many(rules.weights.len(), Noun::Element),
         many(rules.matroids.len(), Noun::Part)
     ))?;
     for (i, matroid) in rules.matroids.iter().enumerate() {
-        text.detail(format_args!("rule {}: {}", i + 1, Rule(matroid)))?;
+        state_rule(text, called, format_args!("rule {}", i + 1), matroid)?;
     }
     tell_ties(text, have_tie(rules.weights))
 }
@@ -297,7 +297,7 @@ pub(crate) fn tell_union(
     requires few { length rules.now.weights.now ≤ most_elements }
     requires ranged { All (IsRangedLevel (length rules.now.weights.now)) levels.now }
 {
-    tell_wanted(text, rules)?;
+    tell_wanted(text, called, rules)?;
     let left = outside(text.alloc(), rules.weights.len() as u32, parts)?;
     text.say(format_args!(
         "BEST: {} in parts, weight {}.",

@@ -1,3 +1,4 @@
 pub mod Called
 pub mod Paragraphs
+pub mod Shared
 pub mod Texts

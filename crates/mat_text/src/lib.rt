@@ -8,6 +8,7 @@ mod filling;
 mod groups;
 mod nouns;
 mod parts;
+mod shared;
 mod spelled;
 mod text;
 
@@ -16,5 +17,6 @@ pub use ends::{Ends, tell_found, tell_none, tell_numbered};
 pub use groups::tell_groups;
 pub use nouns::{Counted, Noun, many};
 pub use parts::{is_in_some, outside, tell_left, tell_parts};
+pub use shared::{Side, own_part, shared_part};
 pub use spelled::Spelled;
 pub use text::{Paragraph, Text};
