@@ -25,6 +25,16 @@ pub(crate) struct Chart<'a> {
     top: Units,
     low: i128,
     high: i128,
+    // How much room the weight of the best step takes.
+    best_words: Units,
+}
+
+// How much room the weight of the best step takes.
+fn best_words(alloc: Global, ladder: &Ladder<'_>) -> Result<Units, AllocError> {
+    match ladder.steps.get(ladder.best) {
+        Some(step) => Ok(Units::of(weight_bytes(alloc, step.weight)?) * 8),
+        None => Ok(Units::ZERO),
+    }
 }
 
 // The most bytes of the weight of a row, and at least so many.
@@ -108,6 +118,7 @@ impl<'a> Chart<'a> {
             top: from + 30,
             low,
             high,
+            best_words: best_words(alloc, ladder)?,
         })
     }
 
@@ -119,6 +130,18 @@ impl<'a> Chart<'a> {
     /// Where the last column ends.
     pub(crate) fn right(&self) -> Units {
         self.column_at(self.ladder.steps.len())
+    }
+
+    // The middle of the weight of the best step: it stands to the right of the scale of weights.
+    fn best_middle(&self) -> Units {
+        self.middle(self.ladder.best)
+            .max(self.left + self.best_words.half() + 4)
+    }
+
+    /// Where the last column and the weight of the best step end.
+    pub(crate) fn reach(&self) -> Units {
+        self.right()
+            .max(self.best_middle() + self.best_words.half())
     }
 
     // Where the scale of sizes is.
@@ -234,11 +257,17 @@ impl<'a> Chart<'a> {
                 format_args!("size {k} weighs {weight}"),
             )?;
         }
+        let middle = Look::PLAIN.anchor(Anchor::Middle);
+        if is_best {
+            let words = Point {
+                x: self.best_middle(),
+                y: at.y - 10,
+            };
+            return drawing.text(words, weight, &middle.bold());
+        }
         let long = Units::of(weight_bytes(drawing.alloc(), step.weight)?) * 8;
-        if is_best || self.column >= long {
-            let middle = Look::PLAIN.anchor(Anchor::Middle);
-            let look = if is_best { middle.bold() } else { middle };
-            drawing.text(at.below(-10), weight, &look)?;
+        if self.column >= long {
+            drawing.text(at.below(-10), weight, &middle)?;
         }
         Ok(())
     }

@@ -114,10 +114,23 @@ fn draw_rows(drawing: &mut Drawing, chart: &Chart<'_>) -> Result<(), AllocError>
     draw_gaps(drawing, chart)
 }
 
-// The notes on a ladder: how many elements are in none of its sets.
+// Whether a step has a weight of two numbers.
+fn has_ties(ladder: &Ladder<'_>) -> bool {
+    for step in ladder.steps {
+        if step.weight.tie != 0 {
+            return true;
+        }
+    }
+    false
+}
+
+// The notes on a ladder: which number of its weights the curve shows, and how many elements are in none of its sets.
 fn notes(alloc: Global, chart: &Chart<'_>) -> Result<Text, AllocError> {
     let mut notes = Text::new(alloc);
     let ladder = chart.ladder;
+    if has_ties(ladder) {
+        notes.say("The curve shows the number before `:` of each weight.")?;
+    }
     let none = ladder.weights.len().saturating_sub(chart.rows.len());
     if none > 0 {
         notes.say(format_args!("In no set, and without a row: {}.", many(none, ladder.noun)))?;
@@ -136,5 +149,5 @@ pub fn draw_ladder(canvas: &mut Canvas, ladder: &Ladder<'_>) -> Result<(), Alloc
     chart.draw(&mut part)?;
     draw_rows(&mut part, &chart)?;
     let notes = notes(alloc, &chart)?;
-    canvas.add_part(&part, chart.right() - 20, chart.end() + 18, &notes)
+    canvas.add_part(&part, chart.reach() - 20, chart.end() + 18, &notes)
 }

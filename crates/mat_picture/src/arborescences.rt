@@ -5,13 +5,12 @@ ghost use Rattle.std.specs.Prelude.{◌<◌, ◌^◌, length};
 use crate::arrangement::{Arrangement, Group};
 use crate::graph::Graph;
 use crate::styles::{style_of_set, styles_of_set};
-use crate::walk::walk;
 use mat_reasons::entering;
 use mat_sets::ElemSet;
 use mat_text::{Noun, Text, many};
 use std::alloc::{AllocError, Global};
 
-/// How the cheapest arcs are drawn: along them from the root on. The only error is want of memory.
+/// How the cheapest arcs are drawn. The only error is want of memory.
 pub(crate) fn arranged_cheapest(
     alloc: Global,
     graph: &Graph<'_>,
@@ -19,7 +18,6 @@ pub(crate) fn arranged_cheapest(
     arcs: &ElemSet,
 ) -> Result<Arrangement, AllocError> {
     Ok(Arrangement {
-        order: walk(alloc, graph.vertices, graph.ends.pairs, arcs, root)?,
         groups: Vec::new(alloc),
         styles: styles_of_set(alloc, "not taken", "taken", 0)?,
         style_of: style_of_set(alloc, graph.edges(), arcs)?,
@@ -27,23 +25,6 @@ pub(crate) fn arranged_cheapest(
         is_priced: true,
         notes: Text::new(alloc),
     })
-}
-
-// The root, the other vertices outside the set, and those in it.
-fn root_first(
-    alloc: Global,
-    vertices: u32,
-    root: u32,
-    set: &ElemSet,
-) -> Result<Vec<u32>, AllocError> {
-    let mut order = vec![in alloc; root]?;
-    for v in 0..vertices {
-        if v != root && !set.contains(v) {
-            order.push(v)?;
-        }
-    }
-    order.extend_from_slice(set.as_slice())?;
-    Ok(order)
 }
 
 /// How vertices are drawn that too few arcs enter: so many are needed. The only error is want of memory.
@@ -68,7 +49,6 @@ pub(crate) fn arranged_entered(
         colour: 1,
     })?;
     Ok(Arrangement {
-        order: root_first(alloc, graph.vertices, root, set)?,
         groups,
         styles: styles_of_set(alloc, "other arcs", "into the shaded vertices", 1)?,
         style_of: style_of_set(alloc, graph.edges(), &entering)?,

@@ -42,6 +42,11 @@ impl Style {
         }
     }
 
+    /// Whether the edges are as thin as can be.
+    pub(crate) fn is_thin(&self) -> bool {
+        self.width <= 1
+    }
+
     /// How they look where they are so wide.
     pub(crate) fn look(&self, width: Units) -> Look {
         let look = Look::PLAIN.stroke(self.colour).stroke_width(width);
@@ -61,10 +66,9 @@ pub(crate) struct Group {
     pub(crate) colour: usize,
 }
 
-/// An order of the vertices, groups of them, the style of each edge, and what is marked and told.
+/// Groups of vertices, the style of each edge, and what is marked and told.
 #[derive(Drop)]
 pub(crate) struct Arrangement {
-    pub(crate) order: Vec<u32>,
     pub(crate) groups: Vec<Group>,
     pub(crate) styles: Vec<Style>,
     /// The number of each edge's style.
@@ -77,6 +81,21 @@ pub(crate) struct Arrangement {
 }
 
 impl Arrangement {
+    /// Whether there are more groups than colours, so that groups are told apart by their numbers.
+    pub(crate) fn numbers_groups(&self) -> bool {
+        self.groups.len() > 7
+    }
+
+    /// The number of the group that has a vertex, counted from 1: None where no group has it.
+    pub(crate) fn group_of(&self, v: u32) -> Option<usize> {
+        for group in &self.groups {
+            if group.vertices.contains(v) {
+                return Some(group.colour.saturating_add(1));
+            }
+        }
+        None
+    }
+
     /// Whether an edge has the style of this number.
     pub(crate) fn uses(&self, style: usize) -> bool {
         self.style_of.contains(&style)

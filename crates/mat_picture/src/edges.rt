@@ -72,12 +72,18 @@ fn draw_styled(
     drawing.group(&look_of(layout, style), &edges)
 }
 
-/// Draws all edges, style by style. The only error is want of memory.
-pub(crate) fn draw_edges(drawing: &mut Drawing, layout: &Layout<'_>) -> Result<(), AllocError> {
+// Draws the thin edges or the thick ones, style by style.
+fn draw_all(drawing: &mut Drawing, layout: &Layout<'_>, are_thin: bool) -> Result<(), AllocError> {
     for (i, style) in layout.arrangement.styles.iter().enumerate() {
-        if layout.arrangement.uses(i) {
+        if style.is_thin() == are_thin && layout.arrangement.uses(i) {
             draw_styled(drawing, layout, i, style)?;
         }
     }
     Ok(())
+}
+
+/// Draws all edges, the thin ones behind the others. The only error is want of memory.
+pub(crate) fn draw_edges(drawing: &mut Drawing, layout: &Layout<'_>) -> Result<(), AllocError> {
+    draw_all(drawing, layout, true)?;
+    draw_all(drawing, layout, false)
 }

@@ -5,7 +5,7 @@ ghost use Rattle.mat_problem.specs.{Validity.{IsValid}, Views.{instance_of}};
 
 use mat_problem::Problem;
 use mat_sets::Weight;
-use mat_text::{Called, Ends, Noun, Spelled};
+use mat_text::{Called, Ends, Name, Noun, Spelled};
 use std::alloc::{AllocError, Global};
 
 /// What the edges of a graph are worth.
@@ -25,6 +25,19 @@ pub(crate) struct Graph<'a> {
     pub(crate) vertices: u32,
     pub(crate) ends: Ends<'a>,
     pub(crate) worth: Worth<'a>,
+}
+
+// The most bytes of a name in a label.
+const LONGEST: usize = 16;
+
+// What a name begins with, and the mark of what is cut from it where it is too long for a label.
+fn cut<'a>(name: Name<'a>) -> (Name<'a>, &'static str) {
+    match name {
+        Name::Listed(bytes) if bytes.len() > LONGEST => {
+            (Name::Listed(&bytes[..LONGEST - 2]), "..")
+        }
+        whole => (whole, ""),
+    }
 }
 
 impl<'a> Graph<'a> {
@@ -121,19 +134,19 @@ impl<'a> Graph<'a> {
         format!(in alloc; "{name}: {tail} to {head}{money}")
     }
 
-    /// The name of an edge, and where this is asked for its cost or its weight. The only error is want of memory.
+    /// The name of an edge, cut where it is long, and where this is asked for its cost or its weight. The only error is want of memory.
     pub(crate) fn label(
         &self,
         alloc: Global,
         e: usize,
         is_priced: bool,
     ) -> Result<String, AllocError> {
-        let name = self.ends.called.element(e);
+        let (name, mark) = cut(self.ends.called.element(e));
         if is_priced {
             let price = Spelled(self.price(e));
-            format!(in alloc; "{name} {price}")
+            format!(in alloc; "{name}{mark} {price}")
         } else {
-            format!(in alloc; "{name}")
+            format!(in alloc; "{name}{mark}")
         }
     }
 }

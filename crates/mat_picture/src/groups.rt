@@ -34,12 +34,3 @@ pub(crate) fn grouped(alloc: Global, classes: &[ElemSet]) -> Result<Vec<Group>, 
     }
     Ok(groups)
 }
-
-/// The vertices of the groups, group by group. The only error is want of memory.
-pub(crate) fn vertices_of(alloc: Global, groups: &[Group]) -> Result<Vec<u32>, AllocError> {
-    let mut order = Vec::new(alloc);
-    for group in groups {
-        order.extend_from_slice(group.vertices.as_slice())?;
-    }
-    Ok(order)
-}

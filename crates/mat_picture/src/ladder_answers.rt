@@ -132,6 +132,6 @@ pub(crate) fn draw_rainbow(
     let Some(graph) = scene.graph() else {
         return Ok(());
     };
-    let arrangement = arranged_rainbow(alloc, &graph, colour_of, best, missing, &groups)?;
+    let arrangement = arranged_rainbow(alloc, colour_of, best, missing, &groups)?;
     draw_graph(canvas, &graph, &arrangement)
 }

@@ -12,6 +12,9 @@ use std::alloc::{AllocError, Global};
 /// The most vertices whose names stand upright.
 pub(crate) const FEW: usize = 24;
 
+// The most edges beside one another that have labels.
+const MOST_BESIDE: usize = 8;
+
 /// How an edge between two vertices runs: along the quadratic Bézier curve from the vertex of the lower place to the other one, with the control
 /// point `by`.
 #[derive(Clone, Copy)]
@@ -77,30 +80,9 @@ pub(crate) struct Layout<'a> {
     pub(crate) graph: &'a Graph<'a>,
     pub(crate) arrangement: &'a Arrangement,
     pub(crate) strands: Vec<Strand>,
-    /// The place of each vertex.
-    places: Vec<usize>,
     /// How far from the circle the name of each vertex stands.
     far: Vec<Units>,
     room: Room,
-}
-
-// The place of a vertex in the order.
-fn place_in(order: &[u32], v: usize) -> usize {
-    for i in 0..order.len() {
-        if order[i] as usize == v {
-            return i;
-        }
-    }
-    order.len()
-}
-
-// The place of each vertex in the order.
-fn places(alloc: Global, vertices: usize, order: &[u32]) -> Result<Vec<usize>, AllocError> {
-    let mut places = Vec::new(alloc);
-    for v in 0..vertices {
-        places.push(place_in(order, v))?;
-    }
-    Ok(places)
 }
 
 // How many loops a vertex has.
@@ -159,15 +141,14 @@ impl<'a> Layout<'a> {
     ) -> Result<Layout<'a>, AllocError> {
         let vertices = graph.order();
         let names = longest_name(alloc, &graph.ends.called, vertices)?;
-        let places = places(alloc, vertices, &arrangement.order)?;
+        let marks = if arrangement.numbers_groups() { 6 } else { 0 };
         let strands = strands(alloc, graph.ends.pairs)?;
         let far = distances(alloc, vertices, &strands)?;
         Ok(Layout {
             graph,
             arrangement,
             strands,
-            places,
-            room: Room::new(vertices, names, farthest(&far), from),
+            room: Room::new(vertices, names.saturating_add(marks), farthest(&far), from),
             far,
         })
     }
@@ -187,15 +168,10 @@ impl<'a> Layout<'a> {
         self.graph.order() > FEW
     }
 
-    // The place of a vertex.
-    fn place(&self, v: u32) -> usize {
-        self.places.get(v as usize).copied().unwrap_or(0)
-    }
-
     // The point so far outside the circle, at a vertex.
     fn outside(&self, v: u32, distance: Units) -> Point {
         let room = &self.room;
-        room.circle.at(self.place(v), room.radius + distance)
+        room.circle.at(v as usize, room.radius + distance)
     }
 
     /// Where a vertex stands.
@@ -216,14 +192,9 @@ impl<'a> Layout<'a> {
         (self.outside(strand.tail, radius * 2), radius)
     }
 
-    // Where the label of a loop stands.
-    fn loop_label(&self, strand: &Strand) -> Point {
-        self.outside(strand.tail, Units::of(strand.place) * 6 + 20)
-    }
-
     /// How an edge runs that is no loop: edges beside one another bend away from each other.
     pub(crate) fn bend(&self, strand: &Strand) -> Bend {
-        let (first, second) = if self.place(strand.tail) < self.place(strand.head) {
+        let (first, second) = if strand.tail < strand.head {
             (strand.tail, strand.head)
         } else {
             (strand.head, strand.tail)
@@ -233,8 +204,8 @@ impl<'a> Layout<'a> {
         let across = to.x - from.x;
         let down = to.y - from.y;
         let length = (across * across + down * down).root().max(Units(1));
-        let apart = Units::of((140 / strand.count.max(1)).clamp(2, 14));
-        let aside = (Units::of(strand.place) * 2 - (Units::of(strand.count) - 1)) * apart;
+        let place = Units::of(strand.place) * 2 - (Units::of(strand.count) - 1);
+        let aside = (place * 140).over(Units::of(strand.count.max(10)));
         let by = Point {
             x: (from.x + to.x).half() - (down * aside).over(length),
             y: (from.y + to.y).half() + (across * aside).over(length),
@@ -242,11 +213,13 @@ impl<'a> Layout<'a> {
         Bend { from, by, to }
     }
 
-    /// Where the label of an edge stands: those of edges beside one another at different parts of the way.
+    /// Whether an edge has a label: a loop has none, nor has one of many edges beside one another, nor one between many vertices.
+    pub(crate) fn has_label(&self, strand: &Strand) -> bool {
+        !self.is_crowded() && !strand.is_loop() && strand.count <= MOST_BESIDE
+    }
+
+    /// Where the label of an edge stands that is no loop: those of edges beside one another at different parts of the way.
     pub(crate) fn label_at(&self, strand: &Strand) -> Point {
-        if strand.is_loop() {
-            return self.loop_label(strand);
-        }
         let others = Units::of(strand.count) - 1;
         let (part, parts) = if others > Units::ZERO {
             (others * 3 + Units::of(strand.place) * 4, others * 10)

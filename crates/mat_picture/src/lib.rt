@@ -23,6 +23,5 @@ mod strands;
 mod styles;
 mod trees;
 mod vertices;
-mod walk;
 
 pub use picturing::picture;

@@ -35,7 +35,7 @@ fn draw_arcs(
         Answer::Arbor { arcs, .. } => arranged_cheapest(alloc, graph, root, arcs)?,
         Answer::Unreached { set, .. } => arranged_entered(alloc, graph, root, set, 1)?,
         Answer::Disjoint { trees, .. } => {
-            arranged_trees(alloc, graph, Noun::Set, trees.as_slice(), root, Some(root))?
+            arranged_trees(alloc, graph, Noun::Set, trees.as_slice(), Some(root))?
         }
         Answer::DisjointNone { k, set, .. } => arranged_entered(alloc, graph, root, set, *k)?,
         _ => return Ok(()),
@@ -50,7 +50,7 @@ fn draw_edges(canvas: &mut Canvas, graph: &Graph<'_>, answer: &Answer) -> Result
     let alloc = canvas.alloc();
     let arrangement = match answer {
         Answer::Trees { trees, .. } => {
-            arranged_trees(alloc, graph, Noun::Tree, trees.as_slice(), 0, None)?
+            arranged_trees(alloc, graph, Noun::Tree, trees.as_slice(), None)?
         }
         Answer::TreesNone { k, classes, .. } => {
             arranged_classes(alloc, graph, *k, classes.as_slice())?

@@ -1,9 +1,7 @@
 //! Forests of edges of different colours.
 
 use crate::arrangement::{Arrangement, Group, Style};
-use crate::graph::Graph;
-use crate::groups::{grouped, vertices_of};
-use crate::walk::walk;
+use crate::groups::grouped;
 use mat_sets::ElemSet;
 use mat_text::{Noun, Text, many, numbers_of};
 use std::alloc::{AllocError, Global};
@@ -79,22 +77,24 @@ fn notes(
         notes.say("Thick: the edges of the best set.")?;
     }
     if let Some(missing) = missing {
-        let numbers = numbers_of(alloc, missing)?;
-        notes.say(format_args!(
-            "Shaded: the {} that are left without the edges of {}:{numbers}",
-            many(groups.len(), Noun::Group),
-            many(missing.len(), Noun::Colour)
-        ))?;
+        let groups = many(groups.len(), Noun::Group);
+        if missing.is_empty() {
+            notes.say(format_args!("Shaded: the {groups} of vertices that the edges join."))?;
+        } else {
+            let numbers = numbers_of(alloc, missing)?;
+            notes.say(format_args!(
+                "Shaded: the {groups} that are left without the edges of {}:{numbers}",
+                many(missing.len(), Noun::Colour)
+            ))?;
+        }
     }
     Ok(notes)
 }
 
-/// How a best set of edges of different colours is drawn. The vertices stand along the set from vertex 0 on. But where `missing` has colours,
-/// which show that no such set joins all vertices, they stand by the groups `left` that are left without the edges of these colours. The only
-/// error is want of memory.
+/// How a best set of edges of different colours is drawn. Where there is `missing`, the colours which show that no such set joins all vertices,
+/// the groups `left` are shaded that are left without the edges of these colours. The only error is want of memory.
 pub(crate) fn arranged_rainbow(
     alloc: Global,
-    graph: &Graph<'_>,
     colour_of: &[u32],
     best: &ElemSet,
     missing: &Option<ElemSet>,
@@ -102,12 +102,7 @@ pub(crate) fn arranged_rainbow(
 ) -> Result<Arrangement, AllocError> {
     let colours = ElemSet::from_members(alloc, colour_of)?;
     let groups = grouped(alloc, left)?;
-    let order = match missing {
-        Some(_) => vertices_of(alloc, &groups)?,
-        None => walk(alloc, graph.vertices, graph.ends.pairs, best, 0)?,
-    };
     Ok(Arrangement {
-        order,
         styles: styles(alloc, &colours, colour_of, best)?,
         style_of: style_of(alloc, &colours, colour_of, best)?,
         marked: None,

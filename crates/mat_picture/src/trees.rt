@@ -4,28 +4,23 @@ ghost use Rattle.std.specs.Prelude.{◌<◌, ◌^◌, length};
 
 use crate::arrangement::Arrangement;
 use crate::graph::Graph;
-use crate::groups::{grouped, vertices_of};
+use crate::groups::grouped;
 use crate::styles::{style_of, style_of_set, styles, styles_of_set};
-use crate::walk::walk;
 use mat_reasons::crossing;
 use mat_sets::ElemSet;
 use mat_text::{Noun, Text, many};
 use std::alloc::{AllocError, Global};
 
-/// How sets of edges are drawn, each of which joins all vertices: the vertices stand along the first set, from the vertex `from` on, and the
-/// vertex `marked` is filled, if there is one. The only error is want of memory.
+/// How sets of edges are drawn, each of which joins all vertices: the vertex `marked` is filled, if there is one. The only error is want of
+/// memory.
 pub(crate) fn arranged_trees(
     alloc: Global,
     graph: &Graph<'_>,
     noun: Noun,
     sets: &[ElemSet],
-    from: u32,
     marked: Option<u32>,
 ) -> Result<Arrangement, AllocError> {
-    let none = ElemSet::new(alloc);
-    let first = sets.first().unwrap_or(&none);
     Ok(Arrangement {
-        order: walk(alloc, graph.vertices, graph.ends.pairs, first, from)?,
         groups: Vec::new(alloc),
         styles: styles(alloc, noun, sets.len())?,
         style_of: style_of(alloc, graph.edges(), sets)?,
@@ -56,7 +51,6 @@ pub(crate) fn arranged_classes(
         many(between.len(), Noun::Edge)
     ))?;
     Ok(Arrangement {
-        order: vertices_of(alloc, &groups)?,
         groups,
         styles: styles_of_set(alloc, "within a group", "between groups", 1)?,
         style_of: style_of_set(alloc, graph.edges(), &between)?,
