@@ -103,7 +103,7 @@ fn text_for<R: SolveWorkers + CheckWorkers, F: Shelf>(
 }
 
 /// What the request writes for the problem that the file of this name describes. The refusal is that of the first row of the table in
-/// docs/DEFINITIONS.md that applies, unless a file could not be read, or memory ran out.
+/// docs/PROOFS.md that applies, unless a file could not be read, or memory ran out.
 pub(crate) fn text_about<R: SolveWorkers + CheckWorkers, F: Shelf>(
     rt: &R,
     alloc: Global,

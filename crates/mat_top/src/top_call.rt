@@ -86,7 +86,7 @@ fn perform<R: TopWorkers, F: Shelf, O: Sink>(
 ///
 /// Usage comes exactly where the words are no command, ReadFault only where the shelf's count of faults rose for a file of the call, and
 /// WriteFault only where the count of `out` rose. Where the shelf tells the files, each other status but Memory is the one of the
-/// table in docs/DEFINITIONS.md: TooLong, BadList, BadDescription, BadCertificate, WrongShape, BadCost, Unwitnessed, BadWitness, No or
+/// table in docs/PROOFS.md: TooLong, BadList, BadDescription, BadCertificate, WrongShape, BadCost, Unwitnessed, BadWitness, No or
 /// Done. Nothing is written to `out` but on Done, when it is the whole answer, and on WriteFault, when it is a proper prefix of it.
 pub fn run<R: TopWorkers, F: Shelf, O: Sink, N: Sink>(
     rt: &R,
