@@ -5,7 +5,7 @@ the repository.
 For each case of `table.py` and each command with an answer that is checked, with names of 32 bytes
 for the elements and the vertices, the table has the seconds and the peak memory in MB of `check`,
 of `--tell` and of `--picture`, and the bytes of both texts. Each text has to stay below the bound
-of docs/FORMATS.md; each line of words has at most 96 bytes, but for one of a single word; each
+of docs/REPORTS.md; each line of words has at most 96 bytes, but for one of a single word; each
 picture has to be read by an XML parser (expat), and to be one `svg` of shapes and texts, without
 scripts, styles and links. What is not so is printed. The last line is `N passed, M failed`, which
 counts answers; the status is 1 if one failed. The program is crates/mat_main/out/mat_main if none
