@@ -29,6 +29,7 @@ def try_page(certificate, picture):
         browser.resize(1100, 900)
         browser.open((TOP / "release" / "matbench.html").as_uri())
         browser.wait("document.querySelector('#command').value")
+        browser.run("document.querySelector('#text-tab').click()")
         pages.write(browser, "#description", (TOP / "examples" / "people.txt").read_text())
         pages.choose(browser, "#command", "intersect")
         pages.click_and_wait(browser, "#solve")
