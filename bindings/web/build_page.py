@@ -26,6 +26,9 @@ SCRIPT = ("matbench.mjs", "run.mjs", "textbox.mjs", "link.mjs", "kept.mjs", "ans
           "sheet.mjs", "page.mjs")
 #: The files of the page.
 PAGE = ("index.html", "style.css", "parts.mjs", "matbench.d.mts", "worker.mjs", *SCRIPT)
+#: The characters of ASCII that a word of the one file cannot have.
+UNFIT = "\0\r<"
+
 #: parts.mjs of the one file, which has the function `unpacked` of unpack.js.
 PARTS = """
 const WORKER = {worker};
@@ -266,12 +269,31 @@ def source_of(text):
     return "'sha256-" + base64.b64encode(hashlib.sha256(text.encode()).digest()).decode() + "'"
 
 
+def sevens(content):
+    """Bytes as numbers of seven bits, the last filled with zeros."""
+    held = bits = 0
+    for byte in content:
+        held, bits = (held << 8 | byte) & 0x7fff, bits + 8
+        while bits >= 7:
+            bits -= 7
+            yield held >> bits & 127
+    if bits:
+        yield held << (7 - bits) & 127
+
+
 def packed(content):
-    """Bytes as a word that `unpacked` takes: compressed by zlib, in base 85. No digit of it begins
-    a tag."""
+    """Bytes as a word that `unpacked` takes: compressed by zlib, seven bits a character. What HTML
+    changes, or what could begin a tag, stands together with the seven bits behind it as one
+    character behind ASCII; if it is the last, alone."""
     squeeze = zlib.compressobj(9, zlib.DEFLATED, -zlib.MAX_WBITS, zlib.DEF_MEM_LEVEL)
-    word = base64.b85encode(squeeze.compress(content) + squeeze.flush()).decode()
-    return word.replace("<", ",")
+    word, rest = [], sevens(squeeze.compress(content) + squeeze.flush())
+    for seven in rest:
+        place = UNFIT.find(chr(seven))
+        if place >= 0:
+            behind = next(rest, None)
+            seven = 0x280 + place if behind is None else 0x100 + 128 * place + behind
+        word.append(chr(seven))
+    return "".join(word)
 
 
 def block(name, content):

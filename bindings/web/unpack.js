@@ -1,19 +1,38 @@
 "use strict";
-// Begins the page that is one file. Its script and its module stand there as words of base 85, compressed by deflate.
-const DIGITS = "0123456789ABCDEFGHIJKLMNOPQRSTUVWXYZabcdefghijklmnopqrstuvwxyz!#$%&()*+-;,=>?@^_`{|}~";
+// Begins the page that is one file. Its script and its module stand there as words with seven bits a character, compressed by deflate.
+const UNFIT = "\0\r<";
 
-/** The bytes of a word: five digits are four bytes. */
-function bytesOf(word) {
-  const values = new Uint8Array(128);
-  for (let value = 0; value < 85; value++) values[DIGITS.charCodeAt(value)] = value;
-  const digits = word.padEnd(Math.ceil(word.length / 5) * 5, "~");
-  const bytes = new DataView(new ArrayBuffer((digits.length / 5) * 4));
-  for (let at = 0; at < digits.length; at += 5) {
-    let four = 0;
-    for (let place = at; place < at + 5; place++) four = four * 85 + values[digits.charCodeAt(place)];
-    bytes.setUint32((at / 5) * 4, four);
+/** The numbers of seven bits in a word. A character behind ASCII stands for one that HTML changes, or that could begin a tag, and the number
+ * behind it, or none behind it if it is the last. */
+function* sevensOf(word) {
+  for (let at = 0; at < word.length; at++) {
+    const code = word.charCodeAt(at);
+    if (code < 0x100) {
+      yield code;
+    } else if (code < 0x280) {
+      yield UNFIT.charCodeAt((code - 0x100) >> 7);
+      yield code & 127;
+    } else {
+      yield UNFIT.charCodeAt(code - 0x280);
+    }
   }
-  return bytes.buffer.slice(0, Math.floor((word.length * 4) / 5));
+}
+
+/** The bytes of a word. */
+function bytesOf(word) {
+  const bytes = new Uint8Array(word.length * 2);
+  let held = 0;
+  let bits = 0;
+  let count = 0;
+  for (const seven of sevensOf(word)) {
+    held = ((held << 7) | seven) & 0x3fff;
+    bits += 7;
+    if (bits >= 8) {
+      bits -= 8;
+      bytes[count++] = held >> bits;
+    }
+  }
+  return bytes.subarray(0, count);
 }
 
 /** What a word of the page holds, as the answer to a request. */
